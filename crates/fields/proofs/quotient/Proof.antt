@@ -1,0 +1,21 @@
+use borrow.Author.Tests.{eq-eqb, ne-eqb}
+use borrow.Author.Needs.{needs}
+use Rattle.fields.proofs.quotient.Statement.{statement}
+use Rattle.fields.proofs.quotient.Tie as tie
+use Rattle.fields.proofs.quotient.Reads as reads
+use Rattle.fields.proofs.quotient.Lts as lts
+
+-- src/lib.rt:86:28
+div-result : tie.Need-div-result
+div-result c = search needs
+
+-- src/lib.rt:83:1
+returns : tie.Need-returns
+returns c = simp (eq-eqb _ _ (c .if1 .taken))
+
+-- src/lib.rt:83:1
+returns-2 : tie.Need-returns-2
+returns-2 c = simp (ne-eqb _ _ (c .if1 .left))
+
+pub quotient-spec : {M : Type 1} → statement M
+quotient-spec = tie.close (tie.spec div-result returns returns-2)

@@ -1,0 +1,51 @@
+use native.Mathlib.Omega.{arith}
+use Rattle.fields.proofs.Laws.{putLe-halves}
+use borrow.Author.Needs.{needs}
+use Rattle.fields.proofs.write_u32_le.Statement.{statement}
+use Rattle.fields.proofs.write_u32_le.Tie as tie
+use Rattle.fields.proofs.write_u32_le.Reads as reads
+use Rattle.fields.proofs.write_u32_le.Lts as lts
+use Rattle.fields.proofs.write_u16_le.Reads as write-u16-le-reads
+
+-- src/lib.rt:51:28
+cast-write-u16-le : tie.Need-cast-write-u16-le
+cast-write-u16-le c = search needs
+
+-- src/lib.rt:51:5
+write-u16-le-requires : tie.Need-write-u16-le-requires
+write-u16-le-requires c κs = search needs
+
+-- src/lib.rt:52:23
+add-write-u16-le : tie.Need-add-write-u16-le
+add-write-u16-le c = search needs
+
+-- src/lib.rt:52:32
+cast-write-u16-le-2 : tie.Need-cast-write-u16-le-2
+cast-write-u16-le-2 c = search needs
+
+-- src/lib.rt:52:5
+write-u16-le-requires-2 : tie.Need-write-u16-le-requires-2
+write-u16-le-requires-2 c κs = search needs
+
+-- src/lib.rt:47:1
+same-length : tie.Need-same-length
+same-length c = search needs
+
+-- src/lib.rt:47:1
+returns : tie.Need-returns
+returns c =
+    let a = c .before .before .before .before .before .before .before .before .before .args in
+    putLe-halves 2 (a .buf .now) (a .off) (a .v) (omega arith)
+    (c .before .before .before .before .before .before .write-u16-le .ensures) (c .before .before .write-u16-le2 .ensures)
+
+pub write-u32-le-spec : {M : Type 1} → statement M
+write-u32-le-spec =
+    tie.close
+    (tie.spec
+    cast-write-u16-le
+    write-u16-le-requires
+    add-write-u16-le
+    cast-write-u16-le-2
+    write-u16-le-requires-2
+    same-length
+    returns)

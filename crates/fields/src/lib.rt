@@ -1,0 +1,87 @@
+// Little-endian fields of a byte slice at an offset, and the two capped operations. A reader or writer of a field asks that its
+// bytes are there: whoever calls it has tested that already, and it compiles to one load or one store.
+ghost use mathlib.Core.Path.{_≡_};
+ghost use Prim.Native.Nat.{_+_, _*_, _<_, _≤_, min};
+ghost use lib.ListN.{length};
+ghost use Rattle.fields.specs.Capped.{quotient};
+ghost use Rattle.fields.specs.Le.{le, putLe, Widened};
+
+fn wide(b: u8) -> u64
+    ensures { λ r. ⌜ Widened b r ⌝ }
+{
+    b as u64
+}
+
+pub fn read_u16_le(buf: &[u8], off: usize) -> u16
+    requires { ⌜ off + 2 ≤ length (now buf) ⌝ }
+    ensures { λ r. ⌜ r ≡ le 2 (now (buf .entry)) off ⌝ }
+{
+    (wide(buf[off]) + 256 * wide(buf[off + 1])) as u16
+}
+
+pub fn read_u32_le(buf: &[u8], off: usize) -> u32
+    requires { ⌜ off + 4 ≤ length (now buf) ⌝ }
+    ensures { λ r. ⌜ r ≡ le 4 (now (buf .entry)) off ⌝ }
+{
+    let low = read_u16_le(buf, off) as u32;
+    let high = read_u16_le(buf, off + 2) as u32;
+    low + 65536 * high
+}
+
+pub fn read_u64_le(buf: &[u8], off: usize) -> u64
+    requires { ⌜ off + 8 ≤ length (now buf) ⌝ }
+    ensures { λ r. ⌜ r ≡ le 8 (now (buf .entry)) off ⌝ }
+{
+    let low = read_u32_le(buf, off) as u64;
+    let high = read_u32_le(buf, off + 4) as u64;
+    low + 4294967296 * high
+}
+
+pub fn write_u16_le(buf: &mut [u8], off: usize, v: u16)
+    requires { ⌜ off + 2 ≤ length (now buf) ⌝ }
+    ensures { λ _. ⌜ now (buf .exit) ≡ putLe 2 (now (buf .entry)) off v ⌝ }
+{
+    buf[off] = (v % 256) as u8;
+    buf[off + 1] = (v / 256 % 256) as u8;
+}
+
+pub fn write_u32_le(buf: &mut [u8], off: usize, v: u32)
+    requires { ⌜ off + 4 ≤ length (now buf) ⌝ }
+    ensures { λ _. ⌜ now (buf .exit) ≡ putLe 4 (now (buf .entry)) off v ⌝ }
+{
+    write_u16_le(buf, off, (v % 65536) as u16);
+    write_u16_le(buf, off + 2, (v / 65536) as u16);
+}
+
+pub fn write_u64_le(buf: &mut [u8], off: usize, v: u64)
+    requires { ⌜ off + 8 ≤ length (now buf) ⌝ }
+    ensures { λ _. ⌜ now (buf .exit) ≡ putLe 8 (now (buf .entry)) off v ⌝ }
+{
+    write_u32_le(buf, off, (v % 4294967296) as u32);
+    write_u32_le(buf, off + 4, (v / 4294967296) as u32);
+}
+
+// The product, capped at the largest u32.
+pub fn saturating_mul(a: u32, b: u32) -> u32
+    ensures { λ r. ⌜ r ≡ min (a * b) 4294967295 ⌝ }
+{
+    let product = (a as u64) * (b as u64);
+    if product < 4294967295 {
+        product as u32
+    } else {
+        4294967295
+    }
+}
+
+pub fn min(a: u64, b: u64) -> u64
+    ensures { λ r. ⌜ r ≡ min a b ⌝ }
+{
+    if a < b { a } else { b }
+}
+
+// The quotient, 0 where there is none.
+pub fn quotient(a: u32, b: u32) -> u32
+    ensures { λ r. ⌜ r ≡ quotient a b ⌝ }
+{
+    if b == 0 { 0 } else { a / b }
+}

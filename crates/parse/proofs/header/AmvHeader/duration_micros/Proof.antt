@@ -1,0 +1,47 @@
+use mathlib.Core.Path.{_≡_, ap, _∙_}
+use native.Mathlib.Omega.{arith}
+use Prim.Native.Nat.{ℕ, _*_}
+use lib.IntN.{pos}
+use mir.Syntax.{w64}
+use mir.ValLaws.{toZ-pos}
+use Rattle.parse.specs.Duration.{durationOf, totalSeconds}
+use borrow.Author.Needs.{needs}
+use Rattle.parse.proofs.header.AmvHeader.duration_micros.Statement.{statement}
+use Rattle.parse.proofs.header.AmvHeader.duration_micros.Tie as tie
+use Rattle.parse.proofs.header.AmvHeader.duration_micros.Reads as reads
+use Rattle.parse.proofs.header.AmvHeader.duration_micros.Lts as lts
+use Rattle.parse.proofs.duration.AmvDuration.total_seconds.Reads as total-seconds-reads
+use Rattle.parse.proofs.header.AmvHeader.duration.Reads as duration-reads
+
+-- src/header.rt:54:23
+duration-requires : tie.Need-duration-requires
+duration-requires c κs = search needs
+
+-- src/header.rt:54:23
+total-seconds-requires : tie.Need-total-seconds-requires
+total-seconds-requires c κs = search needs
+
+-- src/header.rt:54:23
+cast-micros : tie.Need-cast-micros
+cast-micros c = search needs
+
+-- src/header.rt:54:22
+mul-micros : tie.Need-mul-micros
+mul-micros c = search needs
+
+-- src/header.rt:55:9
+cast-result : tie.Need-cast-result
+cast-result c = search needs
+
+-- src/header.rt:51:5
+returns : tie.Need-returns
+returns c =
+    let d = durationOf (c .before .before .args .self .«duration_packed») in
+    let e : c .total-seconds .result ≡ totalSeconds d = c .total-seconds .ensures ∙ ap totalSeconds (c .before .duration .ensures) in
+    let m : c .total-seconds .result * 1000000 ≡ 1000000 * totalSeconds d = omega arith in
+    toZ-pos w64 _ (omega (arith, c .total-seconds .ok)) ∙ ap pos m
+
+pub duration-micros-spec : {M : Type 1} → statement M
+duration-micros-spec =
+    tie.close
+    (tie.spec duration-requires total-seconds-requires cast-micros mul-micros cast-result returns)

@@ -1,0 +1,26 @@
+use borrow.Author.Tests.{le-leb, lt-leb}
+use borrow.Author.Needs.{needs}
+use Rattle.parse.proofs.preamble.AmvAudioPreamble.body_padding_slack.Statement.{statement}
+use Rattle.parse.proofs.preamble.AmvAudioPreamble.body_padding_slack.Tie as tie
+use Rattle.parse.proofs.preamble.AmvAudioPreamble.body_padding_slack.Reads as reads
+use Rattle.parse.proofs.preamble.AmvAudioPreamble.body_padding_slack.Lts as lts
+use Rattle.parse.proofs.preamble.AmvAudioPreamble.nibble_body_len.Reads as nibble-body-len-reads
+
+-- src/preamble.rt:79:46
+nibble-body-len-requires : tie.Need-nibble-body-len-requires
+nibble-body-len-requires c κs = search needs
+
+-- src/preamble.rt:79:21
+add-exact : tie.Need-add-exact
+add-exact c = search needs
+
+-- src/preamble.rt:76:5
+returns : tie.Need-returns
+returns c = rw (← c .before .nibble-body-len .ensures) (simp (lt-leb _ _ (c .if1 .taken)))
+
+-- src/preamble.rt:76:5
+returns-2 : tie.Need-returns-2
+returns-2 c = rw (← c .before .nibble-body-len .ensures) (simp (le-leb _ _ (c .if1 .left)))
+
+pub body-padding-slack-spec : {M : Type 1} → statement M
+body-padding-slack-spec = tie.close (tie.spec nibble-body-len-requires add-exact returns returns-2)

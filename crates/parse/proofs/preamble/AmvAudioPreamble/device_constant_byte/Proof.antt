@@ -1,0 +1,22 @@
+use Rattle.fields.specs.Le.{leBytes}
+use Rattle.parse.specs.Preamble.{stateByte}
+use native.Mathlib.Omega.{arith}
+use borrow.Author.Needs.{needs}
+use Rattle.parse.proofs.preamble.AmvAudioPreamble.device_constant_byte.Statement.{
+  statement,
+}
+use Rattle.parse.proofs.preamble.AmvAudioPreamble.device_constant_byte.Tie as tie
+use Rattle.parse.proofs.preamble.AmvAudioPreamble.device_constant_byte.Reads as reads
+use Rattle.parse.proofs.preamble.AmvAudioPreamble.device_constant_byte.Lts as lts
+
+-- src/preamble.rt:108:9
+cast-result : tie.Need-cast-result
+cast-result c = search needs
+
+-- src/preamble.rt:105:5
+returns : tie.Need-returns
+unfolding stateByte leBytes
+returns c = omega arith
+
+pub device-constant-byte-spec : {M : Type 1} → statement M
+device-constant-byte-spec = tie.close (tie.spec cast-result returns)

@@ -1,0 +1,20 @@
+use Rattle.fields.specs.Le.{leBytes}
+use Rattle.parse.specs.Preamble.{stateByte}
+use native.Mathlib.Omega.{arith}
+use borrow.Author.Needs.{needs}
+use Rattle.parse.proofs.preamble.AmvAudioPreamble.initial_step_index.Statement.{statement}
+use Rattle.parse.proofs.preamble.AmvAudioPreamble.initial_step_index.Tie as tie
+use Rattle.parse.proofs.preamble.AmvAudioPreamble.initial_step_index.Reads as reads
+use Rattle.parse.proofs.preamble.AmvAudioPreamble.initial_step_index.Lts as lts
+
+-- src/preamble.rt:102:9
+cast-result : tie.Need-cast-result
+cast-result c = search needs
+
+-- src/preamble.rt:99:5
+returns : tie.Need-returns
+unfolding stateByte leBytes
+returns c = omega arith
+
+pub initial-step-index-spec : {M : Type 1} → statement M
+initial-step-index-spec = tie.close (tie.spec cast-result returns)

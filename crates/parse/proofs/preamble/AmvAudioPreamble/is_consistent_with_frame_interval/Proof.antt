@@ -1,0 +1,19 @@
+use borrow.Author.Needs.{needs}
+use Rattle.parse.proofs.preamble.AmvAudioPreamble.is_consistent_with_frame_interval.Statement.{
+  statement,
+}
+use Rattle.parse.proofs.preamble.AmvAudioPreamble.is_consistent_with_frame_interval.Tie as tie
+use Rattle.parse.proofs.preamble.AmvAudioPreamble.is_consistent_with_frame_interval.Reads as reads
+use Rattle.parse.proofs.preamble.AmvAudioPreamble.is_consistent_with_frame_interval.Lts as lts
+use Rattle.fields.proofs.quotient.Reads as quotient-reads
+
+-- src/preamble.rt:60:38
+quotient-requires : tie.Need-quotient-requires
+quotient-requires c κs = search needs
+
+-- src/preamble.rt:57:5
+returns : tie.Need-returns
+returns c = rw (c .before .quotient .ensures)
+
+pub is-consistent-with-frame-interval-spec : {M : Type 1} → statement M
+is-consistent-with-frame-interval-spec = tie.close (tie.spec quotient-requires returns)

@@ -1,0 +1,29 @@
+use borrow.Author.Tests.{le-leb, lt-leb}
+use Rattle.parse.specs.Preamble.{preambleOf}
+use borrow.Author.Needs.{needs}
+use Rattle.parse.proofs.preamble.AmvAudioPreamble.parse.Statement.{statement}
+use Rattle.parse.proofs.preamble.AmvAudioPreamble.parse.Tie as tie
+use Rattle.parse.proofs.preamble.AmvAudioPreamble.parse.Reads as reads
+use Rattle.parse.proofs.preamble.AmvAudioPreamble.parse.Lts as lts
+use Rattle.fields.proofs.read_u32_le.Reads as read-u32-le-reads
+
+-- src/preamble.rt:38:13
+returns : tie.Need-returns
+unfolding preambleOf
+returns c = simp (lt-leb _ _ (c .if1 .taken))
+
+-- src/preamble.rt:40:13
+read-u32-le-requires : tie.Need-read-u32-le-requires
+read-u32-le-requires c κs = search needs
+
+-- src/preamble.rt:41:13
+read-u32-le-requires-2 : tie.Need-read-u32-le-requires-2
+read-u32-le-requires-2 c κs = search needs
+
+-- src/preamble.rt:34:5
+returns-2 : tie.Need-returns-2
+unfolding preambleOf
+returns-2 c = rw (le-leb _ _ (c .before .before .if1 .left)) (cc)
+
+pub parse-spec : {M : Type 1} → statement M
+parse-spec = tie.close (tie.spec returns read-u32-le-requires read-u32-le-requires-2 returns-2)

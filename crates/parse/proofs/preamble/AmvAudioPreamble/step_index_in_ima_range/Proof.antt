@@ -1,0 +1,19 @@
+use borrow.Author.Needs.{needs}
+use Rattle.parse.proofs.preamble.AmvAudioPreamble.step_index_in_ima_range.Statement.{
+  statement,
+}
+use Rattle.parse.proofs.preamble.AmvAudioPreamble.step_index_in_ima_range.Tie as tie
+use Rattle.parse.proofs.preamble.AmvAudioPreamble.step_index_in_ima_range.Reads as reads
+use Rattle.parse.proofs.preamble.AmvAudioPreamble.step_index_in_ima_range.Lts as lts
+use Rattle.parse.proofs.preamble.AmvAudioPreamble.initial_step_index.Reads as initial-step-index-reads
+
+-- src/preamble.rt:114:9
+initial-step-index-requires : tie.Need-initial-step-index-requires
+initial-step-index-requires c κs = search needs
+
+-- src/preamble.rt:111:5
+returns : tie.Need-returns
+returns c = rw (c .initial-step-index .ensures)
+
+pub step-index-in-ima-range-spec : {M : Type 1} → statement M
+step-index-in-ima-range-spec = tie.close (tie.spec initial-step-index-requires returns)

@@ -1,0 +1,6 @@
+pub mod Duration
+pub mod Chunk
+pub mod Header
+pub mod WaveFormat
+pub mod Preamble
+pub mod Interleave

@@ -1,0 +1,37 @@
+-- The `WAVEFORMATEX` of the sound. Assumes nothing.
+use Prim.Native.Nat.{ℕ}
+use mathlib.Core.Bool.{cond}
+use mathlib.Core.List.{List}
+use lib.Dec.{leb}
+use lib.ListN.{length}
+use Rattle.error.specs.Answer.{Answer, accepted, refused, ask}
+use Rattle.error.specs.Refusal.{refusalOf}
+use Rattle.fields.specs.Le.{le}
+use Rattle.parse.specs.declared.wave_format.AmvWaveFormat.{AmvWaveFormat}
+use Rattle.parse.specs.declared.wave_format.AmvWaveFormatResult.{AmvWaveFormatResult}
+use Rattle.parse.specs.declared.wave_format.AmvWaveFormatResult.the-variants.{Ok, Err}
+
+-- 01: "cbSize is 0 under 20"
+unfoldable pub cbSizeOf : List ℕ → ℕ
+cbSizeOf body = cond (leb 20 (length body)) (le 2 body 16) 0
+
+-- Microsoft's WAVEFORMATEX
+unfoldable pub waveFormatFields : List ℕ → AmvWaveFormat
+waveFormatFields body =
+    record {
+      «format_tag» = le 2 body 0;
+      channels = le 2 body 2;
+      «samples_per_sec» = le 4 body 4;
+      «avg_bytes_per_sec» = le 4 body 8;
+      «block_align» = le 2 body 12;
+      «bits_per_sample» = le 2 body 14;
+      «cb_size» = cbSizeOf body;
+    }
+
+-- 01: "`AmvWaveFormat::parse` 18? 27"
+unfoldable pub waveFormatOf : List ℕ → Answer AmvWaveFormat
+waveFormatOf body = ask (leb 18 (length body)) 27 0 (accepted (waveFormatFields body))
+
+abbrev pub saidWaveFormat : AmvWaveFormatResult → Answer AmvWaveFormat
+saidWaveFormat (Ok f) = accepted f
+saidWaveFormat (Err e) = refused (refusalOf e)

@@ -1,0 +1,56 @@
+// The 56-byte body of `amvh`.
+use crate::duration::AmvDuration;
+use error::AmvError;
+ghost use mathlib.Core.Path.{_≡_};
+ghost use Prim.Native.Nat.{_*_};
+ghost use lib.IntN.{pos};
+ghost use Rattle.parse.specs.Duration.{durationOf, totalSeconds};
+ghost use Rattle.parse.specs.Header.{headerOf, saidHeader};
+
+pub struct AmvHeader {
+    pub micros_per_frame: u32,
+    pub width: u32,
+    pub height: u32,
+    pub fps: u32,
+    pub flag_one: u32,
+    pub reserved_30: u32,
+    pub duration_packed: u32,
+}
+
+pub enum AmvHeaderResult {
+    Ok(AmvHeader),
+    Err(AmvError),
+}
+
+impl AmvHeader {
+    pub fn parse(body: &[u8]) -> AmvHeaderResult
+        ensures { λ r. ⌜ saidHeader r ≡ headerOf (now (body .entry)) ⌝ }
+    {
+        if body.len() < 56 {
+            return AmvHeaderResult::Err(AmvError::HeaderTooShort);
+        }
+        let header = AmvHeader {
+            micros_per_frame: fields::read_u32_le(body, 0),
+            width: fields::read_u32_le(body, 32),
+            height: fields::read_u32_le(body, 36),
+            fps: fields::read_u32_le(body, 40),
+            flag_one: fields::read_u32_le(body, 44),
+            reserved_30: fields::read_u32_le(body, 48),
+            duration_packed: fields::read_u32_le(body, 52),
+        };
+        AmvHeaderResult::Ok(header)
+    }
+
+    pub fn duration(self) -> AmvDuration
+        ensures { λ r. ⌜ r ≡ durationOf (self .«duration_packed») ⌝ }
+    {
+        AmvDuration::from_packed(self.duration_packed)
+    }
+
+    pub fn duration_micros(self) -> i64
+        ensures { λ r. ⌜ r ≡ pos (1000000 * totalSeconds (durationOf (self .«duration_packed»))) ⌝ }
+    {
+        let micros = (self.duration().total_seconds() as u64) * 1000000;
+        micros as i64
+    }
+}
