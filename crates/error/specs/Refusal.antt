@@ -1,16 +1,28 @@
 -- The number and the place of each case of `AmvError`, as document 01 fixes them. Assumes nothing.
-use Prim.Native.Nat.{ℕ}
-use Rattle.error.specs.Answer.{Refusal, Answer, accepted, refused}
+use Rattle.error.specs.Answer.{Answer, accepted, refused, numbered}
+use Rattle.error.specs.declared.Refusal.{Refusal}
 use Rattle.error.specs.declared.AmvError.{AmvError}
-use Rattle.error.specs.declared.AmvError.the-variants.{PreambleTooShort, NoSamples, WaveFormatTooShort, HeaderTooShort, ChunkHeaderTooShort, VideoAtOddPosition, AudioAtEvenPosition, OtherAtPosition, OddChunkCount}
+use Rattle.error.specs.declared.AmvError.the-variants.{FileTooLong, Cut, WrongTag, WrongSize, ZeroFps, WrongMicros, WrongFlag, NonzeroReserved, NonzeroByte, WrongFormat, WrongChannels, WrongAverage, WrongAlign, WrongBits, WrongCbSize, PreambleTooShort, NoSamples, WaveFormatTooShort, HeaderTooShort, ChunkHeaderTooShort, VideoAtOddPosition, AudioAtEvenPosition, OtherAtPosition, OddChunkCount}
 use Rattle.error.specs.declared.AmvResult.{AmvResult}
 use Rattle.error.specs.declared.AmvResult.the-variants.{Ok, Err}
 
-abbrev pub numbered : ℕ → ℕ → Refusal
-numbered number place = record { number = number; place = place }
-
--- 01, in the order of its numbers
+-- in the order of 01's numbers
 abbrev pub refusalOf : AmvError → Refusal
+refusalOf FileTooLong = numbered 10 0
+refusalOf (Cut place) = numbered 11 place
+refusalOf (WrongTag place) = numbered 12 place
+refusalOf (WrongSize place) = numbered 13 place
+refusalOf ZeroFps = numbered 14 72
+refusalOf WrongMicros = numbered 15 32
+refusalOf WrongFlag = numbered 16 76
+refusalOf NonzeroReserved = numbered 17 80
+refusalOf (NonzeroByte place) = numbered 18 place
+refusalOf WrongFormat = numbered 19 284
+refusalOf WrongChannels = numbered 20 286
+refusalOf WrongAverage = numbered 21 292
+refusalOf WrongAlign = numbered 22 296
+refusalOf WrongBits = numbered 23 298
+refusalOf WrongCbSize = numbered 24 300
 refusalOf PreambleTooShort = numbered 25 0
 refusalOf NoSamples = numbered 26 0
 refusalOf WaveFormatTooShort = numbered 27 0

@@ -1,9 +1,30 @@
-// The refusals: one case for each question that can be answered with no, and the result of a call that only checks.
+// The refusals: one case for each question of document 01 that a call can answer with no.
 ghost use mathlib.Core.Path.{_≡_};
 ghost use Rattle.error.specs.Refusal.{refusalOf};
 
-// A refusal is known by its number; the case carries its place where that is not fixed.
+// A refusal as 01 gives it: the number of the question, and the place where it was asked.
+pub struct Refusal {
+    pub number: u32,
+    pub place: u64,
+}
+
+// A case carries its place where 01 does not fix it.
 pub enum AmvError {
+    FileTooLong,
+    Cut(u64),
+    WrongTag(u64),
+    WrongSize(u64),
+    ZeroFps,
+    WrongMicros,
+    WrongFlag,
+    NonzeroReserved,
+    NonzeroByte(u64),
+    WrongFormat,
+    WrongChannels,
+    WrongAverage,
+    WrongAlign,
+    WrongBits,
+    WrongCbSize,
     PreambleTooShort,
     NoSamples,
     WaveFormatTooShort,
@@ -22,35 +43,106 @@ pub enum AmvResult {
 }
 
 impl AmvError {
+    fn refusal(self) -> Refusal
+        ensures { λ r. ⌜ r ≡ refusalOf self ⌝ }
+    {
+        match self {
+            AmvError::FileTooLong => Refusal {
+                number: 10,
+                place: 0,
+            },
+            AmvError::Cut(place) => Refusal { number: 11, place },
+            AmvError::WrongTag(place) => Refusal { number: 12, place },
+            AmvError::WrongSize(place) => Refusal { number: 13, place },
+            AmvError::ZeroFps => Refusal {
+                number: 14,
+                place: 72,
+            },
+            AmvError::WrongMicros => Refusal {
+                number: 15,
+                place: 32,
+            },
+            AmvError::WrongFlag => Refusal {
+                number: 16,
+                place: 76,
+            },
+            AmvError::NonzeroReserved => Refusal {
+                number: 17,
+                place: 80,
+            },
+            AmvError::NonzeroByte(place) => Refusal { number: 18, place },
+            AmvError::WrongFormat => Refusal {
+                number: 19,
+                place: 284,
+            },
+            AmvError::WrongChannels => Refusal {
+                number: 20,
+                place: 286,
+            },
+            AmvError::WrongAverage => Refusal {
+                number: 21,
+                place: 292,
+            },
+            AmvError::WrongAlign => Refusal {
+                number: 22,
+                place: 296,
+            },
+            AmvError::WrongBits => Refusal {
+                number: 23,
+                place: 298,
+            },
+            AmvError::WrongCbSize => Refusal {
+                number: 24,
+                place: 300,
+            },
+            AmvError::PreambleTooShort => Refusal {
+                number: 25,
+                place: 0,
+            },
+            AmvError::NoSamples => Refusal {
+                number: 26,
+                place: 0,
+            },
+            AmvError::WaveFormatTooShort => Refusal {
+                number: 27,
+                place: 0,
+            },
+            AmvError::HeaderTooShort => Refusal {
+                number: 28,
+                place: 0,
+            },
+            AmvError::ChunkHeaderTooShort => Refusal {
+                number: 29,
+                place: 0,
+            },
+            AmvError::VideoAtOddPosition(position) => Refusal {
+                number: 62,
+                place: position,
+            },
+            AmvError::AudioAtEvenPosition(position) => Refusal {
+                number: 63,
+                place: position,
+            },
+            AmvError::OtherAtPosition(position) => Refusal {
+                number: 64,
+                place: position,
+            },
+            AmvError::OddChunkCount(count) => Refusal {
+                number: 65,
+                place: count,
+            },
+        }
+    }
+
     pub fn number(self) -> u32
         ensures { λ r. ⌜ r ≡ refusalOf self .number ⌝ }
     {
-        match self {
-            AmvError::PreambleTooShort => 25,
-            AmvError::NoSamples => 26,
-            AmvError::WaveFormatTooShort => 27,
-            AmvError::HeaderTooShort => 28,
-            AmvError::ChunkHeaderTooShort => 29,
-            AmvError::VideoAtOddPosition(_) => 62,
-            AmvError::AudioAtEvenPosition(_) => 63,
-            AmvError::OtherAtPosition(_) => 64,
-            AmvError::OddChunkCount(_) => 65,
-        }
+        self.refusal().number
     }
 
     pub fn place(self) -> u64
         ensures { λ r. ⌜ r ≡ refusalOf self .place ⌝ }
     {
-        match self {
-            AmvError::PreambleTooShort => 0,
-            AmvError::NoSamples => 0,
-            AmvError::WaveFormatTooShort => 0,
-            AmvError::HeaderTooShort => 0,
-            AmvError::ChunkHeaderTooShort => 0,
-            AmvError::VideoAtOddPosition(position) => position,
-            AmvError::AudioAtEvenPosition(position) => position,
-            AmvError::OtherAtPosition(position) => position,
-            AmvError::OddChunkCount(count) => count,
-        }
+        self.refusal().place
     }
 }

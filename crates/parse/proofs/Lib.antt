@@ -1,2 +1,4 @@
 pub mod Durations
+pub mod Chunks
 pub mod Interleaves
+pub mod Cases

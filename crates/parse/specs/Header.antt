@@ -1,7 +1,7 @@
 -- The body of `amvh`. Assumes nothing.
-use Prim.Native.Nat.{ℕ}
+use Prim.Native.Nat.{ℕ, _/_}
 use mathlib.Core.List.{List}
-use lib.Dec.{leb}
+use lib.Dec.{leb, ltb, eqb}
 use lib.ListN.{length}
 use Rattle.error.specs.Answer.{Answer, accepted, refused, ask}
 use Rattle.error.specs.Refusal.{refusalOf}
@@ -31,3 +31,12 @@ headerOf body = ask (leb 56 (length body)) 28 0 (accepted (headerFields body))
 abbrev pub saidHeader : AmvHeaderResult → Answer AmvHeader
 saidHeader (Ok h) = accepted h
 saidHeader (Err e) = refused (refusalOf e)
+
+-- 01: "fps above 0? 14. Is micros 1,000,000/fps? 15. Flag 1 (76)? 16. Zero at 80? 17. .. Places: field offsets."
+unfoldable pub headerSentinels : AmvHeader → Answer Unit
+headerSentinels h =
+    ask (ltb 0 (h .fps)) 14 72
+    (ask (eqb (h .«micros_per_frame») (1000000 / h .fps)) 15 32
+    (ask (eqb (h .«flag_one») 1) 16 76
+    (ask (eqb (h .«reserved_30») 0) 17 80
+    (accepted tt))))

@@ -3,8 +3,7 @@ use Prim.Native.Nat.{ℕ, suc, _%_}
 use mathlib.Core.Bool.{Bool, not}
 use mathlib.Core.List.{List, [], _∷_}
 use lib.Dec.{eqb}
-use Rattle.error.specs.Answer.{Answer, accepted, refused, ask, andThen}
-use Rattle.error.specs.Refusal.{numbered}
+use Rattle.error.specs.Answer.{Answer, accepted, refused, numbered, ask, andThen}
 use Rattle.parse.specs.Chunk.{kindOf}
 use Rattle.parse.specs.declared.chunk.ChunkKind.{ChunkKind}
 use Rattle.parse.specs.declared.chunk.ChunkKind.the-variants.{Video, Audio, Other}

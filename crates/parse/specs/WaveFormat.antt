@@ -1,8 +1,8 @@
 -- The `WAVEFORMATEX` of the sound. Assumes nothing.
-use Prim.Native.Nat.{ℕ}
+use Prim.Native.Nat.{ℕ, _*_, min}
 use mathlib.Core.Bool.{cond}
 use mathlib.Core.List.{List}
-use lib.Dec.{leb}
+use lib.Dec.{leb, eqb}
 use lib.ListN.{length}
 use Rattle.error.specs.Answer.{Answer, accepted, refused, ask}
 use Rattle.error.specs.Refusal.{refusalOf}
@@ -35,3 +35,18 @@ waveFormatOf body = ask (leb 18 (length body)) 27 0 (accepted (waveFormatFields 
 abbrev pub saidWaveFormat : AmvWaveFormatResult → Answer AmvWaveFormat
 saidWaveFormat (Ok f) = accepted f
 saidWaveFormat (Err e) = refused (refusalOf e)
+
+-- 01: "twice the rate capped at 4,294,967,295"
+abbrev pub averageOf : ℕ → ℕ
+averageOf rate = min (rate * 2) 4294967295
+
+-- 01: "Format 1? 19. One channel? 20. Average as written above? 21. Align 2? 22. Bits 16? 23. cbSize 0? 24. Places: field offsets."
+unfoldable pub waveFormatSentinels : AmvWaveFormat → Answer Unit
+waveFormatSentinels f =
+    ask (eqb (f .«format_tag») 1) 19 284
+    (ask (eqb (f .channels) 1) 20 286
+    (ask (eqb (f .«avg_bytes_per_sec») (averageOf (f .«samples_per_sec»))) 21 292
+    (ask (eqb (f .«block_align») 2) 22 296
+    (ask (eqb (f .«bits_per_sample») 16) 23 298
+    (ask (eqb (f .«cb_size») 0) 24 300
+    (accepted tt))))))

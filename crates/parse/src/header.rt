@@ -1,11 +1,13 @@
 // The 56-byte body of `amvh`.
 use crate::duration::AmvDuration;
 use error::AmvError;
+use error::AmvResult;
 ghost use mathlib.Core.Path.{_≡_};
 ghost use Prim.Native.Nat.{_*_};
 ghost use lib.IntN.{pos};
+ghost use Rattle.error.specs.Refusal.{said};
 ghost use Rattle.parse.specs.Duration.{durationOf, totalSeconds};
-ghost use Rattle.parse.specs.Header.{headerOf, saidHeader};
+ghost use Rattle.parse.specs.Header.{headerOf, saidHeader, headerSentinels};
 
 pub struct AmvHeader {
     pub micros_per_frame: u32,
@@ -52,5 +54,24 @@ impl AmvHeader {
     {
         let micros = (self.duration().total_seconds() as u64) * 1000000;
         micros as i64
+    }
+
+    // What a device writes: the quotient truncated, the flag 1, the reserved number 0.
+    pub fn validate_sentinels(self) -> AmvResult
+        ensures { λ r. ⌜ said r ≡ headerSentinels self ⌝ }
+    {
+        if self.fps == 0 {
+            return AmvResult::Err(AmvError::ZeroFps);
+        }
+        if self.micros_per_frame != 1000000 / self.fps {
+            return AmvResult::Err(AmvError::WrongMicros);
+        }
+        if self.flag_one != 1 {
+            return AmvResult::Err(AmvError::WrongFlag);
+        }
+        if self.reserved_30 != 0 {
+            return AmvResult::Err(AmvError::NonzeroReserved);
+        }
+        AmvResult::Ok
     }
 }

@@ -1,8 +1,10 @@
 // The `WAVEFORMATEX` of the sound.
 use error::AmvError;
+use error::AmvResult;
 ghost use mathlib.Core.Path.{_≡_};
+ghost use Rattle.error.specs.Refusal.{said};
 ghost use Rattle.fields.specs.Capped.{quotient};
-ghost use Rattle.parse.specs.WaveFormat.{waveFormatOf, saidWaveFormat, cbSizeOf};
+ghost use Rattle.parse.specs.WaveFormat.{waveFormatOf, saidWaveFormat, cbSizeOf, waveFormatSentinels};
 
 pub struct AmvWaveFormat {
     pub format_tag: u16,
@@ -54,5 +56,30 @@ impl AmvWaveFormat {
         ensures { λ r. ⌜ r ≡ quotient (self .«samples_per_sec») fps ⌝ }
     {
         fields::quotient(self.samples_per_sec, fps)
+    }
+
+    // What a device writes, at any sample rate: one channel of 16-bit PCM.
+    pub fn validate_sentinels(self) -> AmvResult
+        ensures { λ r. ⌜ said r ≡ waveFormatSentinels self ⌝ }
+    {
+        if self.format_tag != 1 {
+            return AmvResult::Err(AmvError::WrongFormat);
+        }
+        if self.channels != 1 {
+            return AmvResult::Err(AmvError::WrongChannels);
+        }
+        if self.avg_bytes_per_sec != fields::saturating_mul(self.samples_per_sec, 2) {
+            return AmvResult::Err(AmvError::WrongAverage);
+        }
+        if self.block_align != 2 {
+            return AmvResult::Err(AmvError::WrongAlign);
+        }
+        if self.bits_per_sample != 16 {
+            return AmvResult::Err(AmvError::WrongBits);
+        }
+        if self.cb_size != 0 {
+            return AmvResult::Err(AmvError::WrongCbSize);
+        }
+        AmvResult::Ok
     }
 }
