@@ -1,0 +1,29 @@
+-- Questions one after another: what goes on, what refuses, and what an accepted run has passed. Assumes nothing.
+use mathlib.Core.Path.{_≡_, refl, sym, ap, _∙_}
+use mathlib.Core.Bool.{Bool, true, false}
+use Prim.Native.Nat.{ℕ}
+use native.Mathlib.Omega.{arith}
+use Rattle.error.specs.Answer.{Answer, accepted, refused, numbered, ask, andThen}
+use Rattle.error.specs.Refusal.{refusalOf, said}
+use Rattle.error.specs.declared.AmvError.{AmvError}
+use Rattle.error.specs.declared.AmvResult.{AmvResult}
+use Rattle.error.specs.declared.AmvResult.the-variants.{Ok, Err}
+
+module _ {B : Type 0} where
+  -- a call that only checks, and what is asked after it
+  pub then-ok : {r : AmvResult} {x : Answer Unit} (rest : Unit → Answer B) → said r ≡ x → r ≡ Ok → andThen x rest ≡ rest tt
+  then-ok {r} {x} rest s e = ap (λ (y : Answer Unit). andThen y rest) (sym s ∙ ap said e)
+
+  pub then-err : {r : AmvResult} {x : Answer Unit} {e : AmvError} (rest : Unit → Answer B) → said r ≡ x → r ≡ Err e
+      → andThen x rest ≡ refused (refusalOf e)
+  then-err {r} {x} {e} rest s p = ap (λ (y : Answer Unit). andThen y rest) (sym s ∙ ap said p)
+
+  -- what was accepted has passed the first call and the second
+  pub then-passed : (x : Answer Unit) (rest : Unit → Answer B) {b : B} → andThen x rest ≡ accepted b → (x ≡ accepted tt) × (rest tt ≡ accepted b)
+  then-passed (accepted u) rest e = (refl, e)
+  then-passed (refused r) rest e = let z : _≡_ {A = ℕ} 0 1 = cc in absurd (omega arith)
+
+  -- and each question
+  pub ask-passed : (b : Bool) (number place : ℕ) (x : Answer B) {y : B} → ask b number place x ≡ accepted y → (b ≡ true) × (x ≡ accepted y)
+  ask-passed true n p x e = (refl, e)
+  ask-passed false n p x e = let z : _≡_ {A = ℕ} 0 1 = cc in absurd (omega arith)

@@ -1,0 +1,3 @@
+pub mod Layouts
+pub mod Zeros
+pub mod Bodies

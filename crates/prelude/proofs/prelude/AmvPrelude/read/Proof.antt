@@ -1,0 +1,111 @@
+use Rattle.error.specs.Answer.{accepted}
+use mathlib.Core.Path.{_≡_, sym, ap, _∙_}
+use Prim.Native.Nat.{ℕ}
+use native.Mathlib.Omega.{arith}
+use Rattle.parse.specs.Header.{headerFields, saidHeader}
+use Rattle.parse.specs.WaveFormat.{waveFormatFields, saidWaveFormat}
+use Rattle.prelude.specs.Prelude.{between, preludeFields}
+use Rattle.prelude.proofs.Bodies.{header-body, wave-format-body}
+use borrow.Author.Needs.{needs}
+use Rattle.prelude.proofs.prelude.AmvPrelude.read.Statement.{statement}
+use Rattle.prelude.proofs.prelude.AmvPrelude.read.Tie as tie
+use Rattle.prelude.proofs.prelude.AmvPrelude.read.Reads as reads
+use Rattle.prelude.proofs.prelude.AmvPrelude.read.Lts as lts
+use Rattle.parse.proofs.header.AmvHeader.parse.Reads as header-AmvHeader-parse-reads
+use Rattle.parse.proofs.wave_format.AmvWaveFormat.parse.Reads as wave-format-AmvWaveFormat-parse-reads
+
+-- src/prelude.rt:159:45
+sub-parse : tie.Need-sub-parse
+sub-parse c = search needs
+
+-- src/prelude.rt:159:45
+part-parse-start : tie.Need-part-parse-start
+part-parse-start c = search needs
+
+-- src/prelude.rt:159:45
+part-parse-end : tie.Need-part-parse-end
+part-parse-end c = search needs
+
+-- src/prelude.rt:159:28
+parse-requires : tie.Need-parse-requires
+parse-requires c κs = search needs
+
+-- src/prelude.rt:160:33
+enum-known-header : tie.Need-enum-known-header
+enum-known-header c = search needs
+
+-- src/prelude.rt:161:34
+enum-known-e : tie.Need-enum-known-e
+enum-known-e c = search needs
+
+-- src/prelude.rt:161:40
+returns : tie.Need-returns
+returns c =
+    let file = c .before .before .before .before .before .before .args .file .now in
+    let got = sym (ap saidHeader (c .before .e .given .1)) ∙ c .before .before .before .parse .ensures ∙ header-body file (omega arith) in
+    let z : _≡_ {A = ℕ} 0 1 = cc in
+    absurd (omega arith)
+
+-- src/prelude.rt:163:55
+sub-parse-2 : tie.Need-sub-parse-2
+sub-parse-2 c = search needs
+
+-- src/prelude.rt:163:55
+part-parse-start-2 : tie.Need-part-parse-start-2
+part-parse-start-2 c = search needs
+
+-- src/prelude.rt:163:55
+part-parse-end-2 : tie.Need-part-parse-end-2
+part-parse-end-2 c = search needs
+
+-- src/prelude.rt:163:34
+parse-requires-2 : tie.Need-parse-requires-2
+parse-requires-2 c κs = search needs
+
+-- src/prelude.rt:164:37
+enum-known-format : tie.Need-enum-known-format
+enum-known-format c = search needs
+
+-- src/prelude.rt:165:38
+enum-known-e-2 : tie.Need-enum-known-e-2
+enum-known-e-2 c = search needs
+
+-- src/prelude.rt:165:44
+returns-2 : tie.Need-returns-2
+returns-2 c =
+    let file = c .before .before .before .before .before .before .before .before .before .before .before .args .file .now in
+    let got = sym (ap saidWaveFormat (c .before .e2 .given .1)) ∙ c .before .before .before .parse2 .ensures ∙ wave-format-body file (omega arith) in
+    let z : _≡_ {A = ℕ} 0 1 = cc in
+    absurd (omega arith)
+
+-- src/prelude.rt:155:5
+returns-3 : tie.Need-returns-3
+unfolding preludeFields
+returns-3 c = let file = c .before .before .before .before .before .before .before .before .before .before .before .args .file .now in
+    let header = c .before .before .before .before .before .before .header .given in
+    let format = c .before .format .given in
+    let h = sym (ap saidHeader (header .1)) ∙ c .before .before .before .before .before .before .before .before .parse .ensures ∙ header-body file (omega arith) in
+    let f = sym (ap saidWaveFormat (format .1)) ∙ c .before .before .before .parse2 .ensures ∙ wave-format-body file (omega arith) in
+    let p : header .0 .0 ≡ headerFields (between 32 88 file) = cc in
+    let q : format .0 .0 ≡ waveFormatFields (between 284 304 file) = cc in
+    λ i. accepted (record { header = p i; «audio_format» = q i; «movi_payload_start» = 316 })
+
+pub read-spec : {M : Type 1} → statement M
+read-spec =
+    tie.close
+    (tie.spec
+    sub-parse
+    part-parse-start
+    part-parse-end
+    parse-requires
+    enum-known-header
+    enum-known-e
+    returns
+    sub-parse-2
+    part-parse-start-2
+    part-parse-end-2
+    parse-requires-2
+    enum-known-format
+    enum-known-e-2
+    returns-2
+    returns-3)

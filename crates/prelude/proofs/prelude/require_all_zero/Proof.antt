@@ -1,0 +1,73 @@
+use mathlib.Core.Path.{_≡_, refl, sym, ap, _∙_}
+use Prim.Native.Nat.{ℕ, _≤_, _+_, _-_}
+use native.Mathlib.Nat.{add-zero, sub-zero}
+use native.Mathlib.Omega.{arith}
+use Rattle.prelude.specs.Prelude.{zeros}
+use Rattle.prelude.proofs.Zeros.{zeros-on, zeros-no}
+use Rattle.prelude.proofs.prelude.require_all_zero.Statement.{statement}
+use Rattle.prelude.proofs.prelude.require_all_zero.Tie as tie
+use Rattle.prelude.proofs.prelude.require_all_zero.Reads as reads
+use Rattle.prelude.proofs.prelude.require_all_zero.Lts as lts
+
+abbrev Inv-loop : tie.InvT-loop
+Inv-loop file place len i₀ i = (i ≤ len) × (zeros file (place + i) (len - i) ≡ zeros file place len)
+
+abbrev μ-loop : tie.MeasureT-loop
+μ-loop file place len i₀ i = len - i
+
+-- src/prelude.rt:108:5
+loop-holds : tie.Need-loop-holds Inv-loop μ-loop
+loop-holds c = (omega arith, rw (add-zero, sub-zero))
+
+-- src/prelude.rt:109:18
+add-at : tie.Need-add-at Inv-loop μ-loop
+add-at c = omega arith
+
+-- src/prelude.rt:110:12
+shared-slice-read-if1 : tie.Need-shared-slice-read-if1 Inv-loop μ-loop
+shared-slice-read-if1 c = omega arith
+
+-- src/prelude.rt:111:13
+returns : tie.Need-returns Inv-loop μ-loop
+returns c =
+    let l = c .before .before .before .loop in
+    let a = c .before .before .before .before .args in
+    sym (zeros-no (a .file .now) (a .place) (a .len) (l .i) (omega arith) (c .if1 .taken)) ∙ l .inv .1
+
+-- src/prelude.rt:113:9
+add-i : tie.Need-add-i Inv-loop μ-loop
+add-i c = omega arith
+
+-- src/prelude.rt:108:5
+loop-less : tie.Need-loop-less Inv-loop μ-loop
+loop-less c = omega arith
+
+-- src/prelude.rt:108:5
+loop-again : tie.Need-loop-again Inv-loop μ-loop
+loop-again c =
+    let l = c .before .before .before .loop in
+    let a = c .before .before .before .before .args in
+    (omega arith, sym (zeros-on (a .file .now) (a .place) (a .len) (l .i) (omega arith) (c .if1 .left)) ∙ l .inv .1)
+
+-- src/prelude.rt:103:1
+returns-2 : tie.Need-returns-2 Inv-loop μ-loop
+unfolding zeros
+returns-2 c = let l = c .before .loop in
+    let a = c .before .before .args in
+    let e : a .len - l .i ≡ 0 = omega arith in
+    rw e at (l .inv .1)
+
+pub require-all-zero-spec : {M : Type 1} → statement M
+require-all-zero-spec =
+    tie.close
+    (tie.spec
+    Inv-loop
+    μ-loop
+    loop-holds
+    add-at
+    shared-slice-read-if1
+    returns
+    add-i
+    loop-less
+    loop-again
+    returns-2)

@@ -1,0 +1,68 @@
+-- The layout of the prelude. Assumes nothing.
+use Prim.Native.Nat.{ℕ, _+_}
+use mathlib.Core.List.{List, [], _∷_}
+use lib.Dec.{leb, eqb}
+use lib.ListN.{length}
+use Rattle.error.specs.Answer.{Answer, accepted, ask, andThen}
+use Rattle.fields.specs.Le.{le}
+use Rattle.prelude.specs.declared.layout.LayoutItem.{LayoutItem}
+use Rattle.prelude.specs.declared.layout.LayoutItem.the-variants.{Tag, Size, Body}
+
+-- the characters of a tag as a little-endian number; `Cases` spells them out
+abbrev pub RIFF : ℕ
+RIFF = 0x46464952
+
+abbrev pub AMV : ℕ
+AMV = 0x20564d41
+
+abbrev pub LIST : ℕ
+LIST = 0x5453494c
+
+abbrev pub hdrl : ℕ
+hdrl = 0x6c726468
+
+abbrev pub amvh : ℕ
+amvh = 0x68766d61
+
+abbrev pub strl : ℕ
+strl = 0x6c727473
+
+abbrev pub strh : ℕ
+strh = 0x68727473
+
+abbrev pub strf : ℕ
+strf = 0x66727473
+
+abbrev pub movi : ℕ
+movi = 0x69766f6d
+
+-- 01: "the 15 tags and 5 sizes above in offset order, with the bodies 32..88 (after its size) and 284..304 (after theirs) in turn"
+unfoldable pub layout : List LayoutItem
+layout =
+    Tag 0 RIFF ∷ Tag 8 AMV ∷ Tag 12 LIST ∷ Tag 20 hdrl ∷ Tag 24 amvh ∷ Size 28 56 ∷ Body 32 56
+    ∷ Tag 88 LIST ∷ Tag 96 strl ∷ Tag 100 strh ∷ Size 104 56 ∷ Tag 164 strf ∷ Size 168 36
+    ∷ Tag 208 LIST ∷ Tag 216 strl ∷ Tag 220 strh ∷ Size 224 48 ∷ Tag 276 strf ∷ Size 280 20 ∷ Body 284 20
+    ∷ Tag 304 LIST ∷ Tag 312 movi ∷ []
+
+-- what stands past the last item: nothing, at the first chunk
+abbrev pub past : LayoutItem
+past = Body 316 0
+
+-- "For each: does the file reach its end? 11. Tag equal? 12. Size equal? 13. Place: its start."
+unfoldable pub askWord : List ℕ → ℕ → ℕ → ℕ → Answer Unit
+askWord file place value number =
+    ask (leb (place + 4) (length file)) 11 place
+    (ask (eqb (le 4 file place) value) number place
+    (accepted tt))
+
+unfoldable pub askBody : List ℕ → ℕ → ℕ → Answer Unit
+askBody file place width = ask (leb (place + width) (length file)) 11 place (accepted tt)
+
+abbrev pub askItem : List ℕ → LayoutItem → Answer Unit
+askItem file (Tag place value) = askWord file place value 12
+askItem file (Size place value) = askWord file place value 13
+askItem file (Body place width) = askBody file place width
+
+unfoldable pub askItems : List ℕ → List LayoutItem → Answer Unit
+askItems file [] = accepted tt
+askItems file (item ∷ items) = andThen (askItem file item) (λ _. askItems file items)

@@ -1,0 +1,3 @@
+// The prelude: everything before the first chunk.
+pub mod layout;
+pub mod prelude;

@@ -1,0 +1,204 @@
+// The prelude of a file, read and checked.
+use crate::layout::LayoutItem;
+use error::AmvError;
+use error::AmvResult;
+use parse::header::AmvHeader;
+use parse::header::AmvHeaderResult;
+use parse::wave_format::AmvWaveFormat;
+use parse::wave_format::AmvWaveFormatResult;
+ghost use mathlib.Core.Path.{_≡_};
+ghost use Prim.Native.Nat.{_+_, _≤_};
+ghost use lib.ListN.{length};
+ghost use lib.Dec.{leb};
+ghost use Rattle.error.specs.Answer.{accepted};
+ghost use Rattle.error.specs.Refusal.{said};
+ghost use Rattle.prelude.specs.Layout.{layout, askWord, askBody, askItem, askItems};
+ghost use Rattle.prelude.specs.Prelude.{saidPrelude, preludeFields, parseOf, zeros, zeroRanges, validatedOf, strictOf};
+
+pub struct AmvPrelude {
+    pub header: AmvHeader,
+    pub audio_format: AmvWaveFormat,
+    pub movi_payload_start: u64,
+}
+
+pub enum AmvPreludeResult {
+    Ok(AmvPrelude),
+    Err(AmvError),
+}
+
+// Whether the file has len bytes from a place on.
+fn reaches(file: &[u8], place: usize, len: usize) -> bool
+    ensures { λ r. ⌜ r ≡ leb (place + len) (length (now (file .entry))) ⌝ }
+{
+    if file.len() < place {
+        return false;
+    }
+    if file.len() - place < len {
+        return false;
+    }
+    true
+}
+
+fn require_tag(file: &[u8], place: usize, expected: u32) -> AmvResult
+    ensures { λ r. ⌜ said r ≡ askWord (now (file .entry)) place expected 12 ⌝ }
+{
+    if reaches(file, place, 4) {
+        if fields::read_u32_le(file, place) == expected {
+            AmvResult::Ok
+        } else {
+            AmvResult::Err(AmvError::WrongTag(place as u64))
+        }
+    } else {
+        AmvResult::Err(AmvError::Cut(place as u64))
+    }
+}
+
+fn require_size(file: &[u8], place: usize, expected: u32) -> AmvResult
+    ensures { λ r. ⌜ said r ≡ askWord (now (file .entry)) place expected 13 ⌝ }
+{
+    if reaches(file, place, 4) {
+        if fields::read_u32_le(file, place) == expected {
+            AmvResult::Ok
+        } else {
+            AmvResult::Err(AmvError::WrongSize(place as u64))
+        }
+    } else {
+        AmvResult::Err(AmvError::Cut(place as u64))
+    }
+}
+
+fn require_body(file: &[u8], place: usize, len: usize) -> AmvResult
+    ensures { λ r. ⌜ said r ≡ askBody (now (file .entry)) place len ⌝ }
+{
+    if reaches(file, place, len) {
+        AmvResult::Ok
+    } else {
+        AmvResult::Err(AmvError::Cut(place as u64))
+    }
+}
+
+fn require_item(file: &[u8], item: LayoutItem) -> AmvResult
+    ensures { λ r. ⌜ said r ≡ askItem (now (file .entry)) item ⌝ }
+{
+    match item {
+        LayoutItem::Tag(place, value) => require_tag(file, place, value),
+        LayoutItem::Size(place, value) => require_size(file, place, value),
+        LayoutItem::Body(place, len) => require_body(file, place, len),
+    }
+}
+
+// The first item that says no.
+fn require_layout(file: &[u8]) -> AmvResult
+    ensures { λ r. ⌜ said r ≡ askItems (now (file .entry)) layout ⌝ }
+{
+    let mut i = 0;
+    while i < LayoutItem::COUNT {
+        let required = require_item(file, LayoutItem::at(i));
+        let AmvResult::Ok = required else {
+            return required;
+        };
+        i += 1;
+    }
+    AmvResult::Ok
+}
+
+// Len bytes from a place on are zero, or the first that is not is refused.
+fn require_all_zero(file: &[u8], place: usize, len: usize) -> AmvResult
+    requires { ⌜ place + len ≤ length (now file) ⌝ }
+    ensures { λ r. ⌜ said r ≡ zeros (now (file .entry)) place len ⌝ }
+{
+    let mut i = 0;
+    while i < len {
+        let at = place + i;
+        if file[at] != 0 {
+            return AmvResult::Err(AmvError::NonzeroByte(at as u64));
+        }
+        i += 1;
+    }
+    AmvResult::Ok
+}
+
+// The stretches that a device leaves zero.
+fn require_zero_ranges(file: &[u8]) -> AmvResult
+    requires { ⌜ 316 ≤ length (now file) ⌝ }
+    ensures { λ r. ⌜ said r ≡ zeroRanges (now (file .entry)) ⌝ }
+{
+    let reserved = require_all_zero(file, 36, 28);
+    let AmvResult::Ok = reserved else {
+        return reserved;
+    };
+    let video_strh = require_all_zero(file, 108, 56);
+    let AmvResult::Ok = video_strh else {
+        return video_strh;
+    };
+    let video_strf = require_all_zero(file, 172, 36);
+    let AmvResult::Ok = video_strf else {
+        return video_strf;
+    };
+    require_all_zero(file, 228, 48)
+}
+
+impl AmvPrelude {
+    // The prelude's length.
+    pub const LEN: usize = 316;
+
+    pub fn parse(file: &[u8]) -> AmvPreludeResult
+        ensures { λ r. ⌜ saidPrelude r ≡ parseOf (now (file .entry)) ⌝ }
+    {
+        if !parse::file::within_limit(file) {
+            return AmvPreludeResult::Err(AmvError::FileTooLong);
+        }
+        match require_layout(file) {
+            AmvResult::Err(e) => AmvPreludeResult::Err(e),
+            AmvResult::Ok => AmvPrelude::read(file),
+        }
+    }
+
+    // The two bodies, of a file that has them.
+    fn read(file: &[u8]) -> AmvPreludeResult
+        requires { ⌜ 316 ≤ length (now file) ⌝ }
+        ensures { λ r. ⌜ saidPrelude r ≡ accepted (preludeFields (now (file .entry))) ⌝ }
+    {
+        let header = match AmvHeader::parse(&file[32..88]) {
+            AmvHeaderResult::Ok(header) => header,
+            AmvHeaderResult::Err(e) => return AmvPreludeResult::Err(e),
+        };
+        let audio_format = match AmvWaveFormat::parse(&file[284..304]) {
+            AmvWaveFormatResult::Ok(format) => format,
+            AmvWaveFormatResult::Err(e) => return AmvPreludeResult::Err(e),
+        };
+        AmvPreludeResult::Ok(AmvPrelude {
+            header,
+            audio_format,
+            movi_payload_start: 316,
+        })
+    }
+
+    pub fn parse_strict(file: &[u8]) -> AmvPreludeResult
+        ensures { λ r. ⌜ saidPrelude r ≡ strictOf (now (file .entry)) ⌝ }
+    {
+        match AmvPrelude::parse(file) {
+            AmvPreludeResult::Err(e) => AmvPreludeResult::Err(e),
+            AmvPreludeResult::Ok(prelude) => prelude.validated(file),
+        }
+    }
+
+    // What parse_strict goes on to ask.
+    fn validated(self, file: &[u8]) -> AmvPreludeResult
+        requires { ⌜ 316 ≤ length (now file) ⌝ }
+        ensures { λ r. ⌜ saidPrelude r ≡ validatedOf self (now (file .entry)) ⌝ }
+    {
+        let header = self.header;
+        if let AmvResult::Err(e) = header.validate_sentinels() {
+            return AmvPreludeResult::Err(e);
+        }
+        if let AmvResult::Err(e) = require_zero_ranges(file) {
+            return AmvPreludeResult::Err(e);
+        }
+        let audio_format = self.audio_format;
+        if let AmvResult::Err(e) = audio_format.validate_sentinels() {
+            return AmvPreludeResult::Err(e);
+        }
+        AmvPreludeResult::Ok(self)
+    }
+}
