@@ -1,2 +1,5 @@
 pub mod Layout
 pub mod Prelude
+pub mod Built
+pub mod Stores
+pub mod Cases

@@ -1,0 +1,93 @@
+-- The prelude's questions look at the first 316 bytes alone. Assumes nothing.
+use mathlib.Core.Path.{_≡_, refl, sym, ap, _∙_}
+use mathlib.Core.Bool.{Bool, true}
+use mathlib.Core.List.{List, [], _∷_, _++_}
+use Prim.Native.Nat.{ℕ, zero, suc, _+_, _-_, _≤_, _<_}
+use native.Mathlib.Decide.{decLe}
+use native.Mathlib.Nat.{lt-of-not-le}
+use native.Mathlib.Omega.{arith}
+use borrow.Author.Tests.{le-leb, lt-leb, leb-true}
+use lib.Dec.{leb}
+use lib.ListN.{length, take, drop, getD, length-take}
+use lib.Seq.{take-take, take-nil, getD-take, take-at}
+use Rattle.error.specs.Answer.{Answer, accepted, ask, andThen}
+use Rattle.fields.proofs.Laws.{le-take}
+use Rattle.parse.specs.File.{withinLimit, fileLimit}
+use Rattle.parse.specs.Header.{headerFields}
+use Rattle.parse.specs.WaveFormat.{waveFormatFields}
+use Rattle.prelude.specs.Layout.{layout, askWord, askBody, askItem, askItems}
+use Rattle.prelude.specs.Prelude.{between, preludeFields, parseOf, zeros, zeroRanges, validatedOf, strictOf}
+use Rattle.prelude.specs.Stores.{Within}
+use Rattle.prelude.specs.declared.layout.LayoutItem.{LayoutItem}
+use Rattle.prelude.specs.declared.layout.LayoutItem.the-variants.{Tag, Size, Body}
+use Rattle.prelude.specs.declared.prelude.AmvPrelude.{AmvPrelude}
+use Rattle.prelude.proofs.Stored.{AllWithin, within-all}
+
+-- a part of the first m elements is that part of the whole
+take-drop-take : {A : Type 0} (k n m : ℕ) (xs : List A) → k + n ≤ m → take n (drop k (take m xs)) ≡ take n (drop k xs)
+take-drop-take zero n m xs h = take-take n m xs (omega arith)
+take-drop-take (suc k) n m [] h = rw (take-nil m)
+take-drop-take (suc k) n zero (x ∷ xs) h = absurd (omega arith)
+take-drop-take (suc k) n (suc m) (x ∷ xs) h = take-drop-take k n m xs (omega arith)
+
+-- whether n bytes are there, with n at most 316
+reach-local : (file : List ℕ) (n : ℕ) → n ≤ 316 → leb n (length (take 316 file)) ≡ leb n (length file)
+reach-local file n h =
+    elim (decLe n (length file)) [
+      | yes l ↦ le-leb n (length (take 316 file)) (simp length-take (omega arith)) ∙ sym (le-leb n (length file) l)
+      | no l ↦ lt-leb n (length (take 316 file)) (simp length-take (omega (arith, lt-of-not-le l))) ∙ sym (lt-leb n (length file) (lt-of-not-le l))
+    ]
+
+word-local : (file : List ℕ) (place value number : ℕ) → place + 4 ≤ 316 → askWord (take 316 file) place value number ≡ askWord file place value number
+unfolding askWord
+word-local file place value number h = rw (reach-local file (place + 4) h, le-take 4 316 file place h)
+
+item-local : (file : List ℕ) (item : LayoutItem) → Within item → askItem (take 316 file) item ≡ askItem file item
+item-local file (Tag place value) h = word-local file place value 12 h
+item-local file (Size place value) h = word-local file place value 13 h
+item-local file (Body place len) h = unfold askBody in rw (reach-local file (place + len) h)
+
+items-local : (file : List ℕ) (items : List LayoutItem) → AllWithin items → askItems (take 316 file) items ≡ askItems file items
+unfolding askItems
+items-local file [] t = refl
+items-local file (item ∷ items) t = rw (item-local file item (t .0), items-local file items (t .1))
+
+fields-local : (file : List ℕ) → preludeFields (take 316 file) ≡ preludeFields file
+unfolding preludeFields
+fields-local file = rw (take-drop-take 32 56 316 file (omega arith), take-drop-take 284 20 316 file (omega arith))
+
+limit-local : (file : List ℕ) → withinLimit file ≡ true → withinLimit (take 316 file) ≡ true
+limit-local file e =
+    let l : length file ≤ fileLimit = leb-true _ _ e in
+    le-leb (length (take 316 file)) fileLimit (simp length-take (omega arith))
+
+pub parse-local : (file : List ℕ) → withinLimit file ≡ true → parseOf (take 316 file) ≡ parseOf file
+unfolding parseOf
+parse-local file e = rw (e, limit-local file e, items-local file layout within-all, fields-local file)
+
+zeros-local : (file : List ℕ) (place n : ℕ) → place + n ≤ 316 → zeros (take 316 file) place n ≡ zeros file place n
+unfolding zeros
+zeros-local file place zero h = refl
+zeros-local file place (suc n) h =
+    rw (getD-take 316 file place 0 (omega arith), zeros-local file (suc place) n (omega arith))
+
+ranges-local : (file : List ℕ) → zeroRanges (take 316 file) ≡ zeroRanges file
+unfolding zeroRanges
+ranges-local file =
+    rw (
+      zeros-local file 36 28 (omega arith),
+      zeros-local file 108 56 (omega arith),
+      zeros-local file 172 36 (omega arith),
+      zeros-local file 228 48 (omega arith),
+    )
+
+validated-local : (p : AmvPrelude) (file : List ℕ) → validatedOf p (take 316 file) ≡ validatedOf p file
+unfolding validatedOf
+validated-local p file = rw (ranges-local file)
+
+pub strict-local : (file : List ℕ) → withinLimit file ≡ true → strictOf (take 316 file) ≡ strictOf file
+unfolding strictOf
+strict-local file e = rw (parse-local file e) (go (parseOf file))
+  where
+    go : (x : Answer AmvPrelude) → andThen x (λ p. validatedOf p (take 316 file)) ≡ andThen x (λ p. validatedOf p file)
+    go x = simp (validated-local)

@@ -1,0 +1,71 @@
+use mathlib.Core.Path.{_≡_, refl, sym, ap, _∙_}
+use Prim.Native.Nat.{ℕ}
+use mathlib.Core.List.{List}
+use lib.ListN.{replicate}
+use Rattle.fields.specs.Le.{leBytes, put}
+use Rattle.prelude.specs.Layout.{layout}
+use Rattle.prelude.specs.Built.{preludeBytes}
+use Rattle.prelude.specs.Stores.{writeItems, headerStores, waveFormatStores}
+use borrow.Author.Needs.{needs}
+use Rattle.prelude.proofs.build.build_prelude_bytes.Statement.{statement}
+use Rattle.prelude.proofs.build.build_prelude_bytes.Tie as tie
+use Rattle.prelude.proofs.build.build_prelude_bytes.Reads as reads
+use Rattle.prelude.proofs.build.build_prelude_bytes.Lts as lts
+use Rattle.prelude.proofs.build.write_header_body.Reads as write-header-body-reads
+use Rattle.prelude.proofs.build.write_layout.Reads as write-layout-reads
+use Rattle.prelude.proofs.build.write_wave_format.Reads as write-wave-format-reads
+
+-- the stores give the fields in their order, which antt computes
+whole : (width height fps duration rate channels : ℕ)
+    → waveFormatStores (headerStores (writeItems (replicate 316 0) layout) width height fps duration) rate channels
+    ≡ preludeBytes width height fps duration rate channels
+unfolding leBytes put layout preludeBytes writeItems headerStores waveFormatStores
+whole width height fps duration rate channels = refl
+
+-- src/build.rt:80:18
+slice-aggregate-write-layout : tie.Need-slice-aggregate-write-layout
+slice-aggregate-write-layout c = search needs
+
+-- src/build.rt:80:5
+write-layout-requires : tie.Need-write-layout-requires
+write-layout-requires c κs = search needs
+
+-- src/build.rt:81:23
+slice-aggregate-write-header-body : tie.Need-slice-aggregate-write-header-body
+slice-aggregate-write-header-body c = search needs
+
+-- src/build.rt:81:5
+write-header-body-requires : tie.Need-write-header-body-requires
+write-header-body-requires c κs = search needs
+
+-- src/build.rt:82:23
+slice-aggregate-write-wave-format : tie.Need-slice-aggregate-write-wave-format
+slice-aggregate-write-wave-format c = search needs
+
+-- src/build.rt:82:5
+write-wave-format-requires : tie.Need-write-wave-format-requires
+write-wave-format-requires c κs = search needs
+
+-- src/build.rt:69:1
+returns : tie.Need-returns
+returns c =
+    let a = c .before .before .before .before .before .before .before .before .before .args in
+    let e : c .before .write-wave-format .last .0 ≡ preludeBytes (a .width) (a .height) (a .fps) (a .duration-packed) (a .rate) (a .channels) =
+    c .before .write-wave-format .ensures
+    ∙ ap (λ (l : List ℕ). waveFormatStores l (a .rate) (a .channels)) (c .before .before .before .before .write-header-body .ensures)
+    ∙ ap (λ (l : List ℕ). waveFormatStores (headerStores l (a .width) (a .height) (a .fps) (a .duration-packed)) (a .rate) (a .channels))
+    (c .before .before .before .before .before .before .before .write-layout .ensures)
+    ∙ whole (a .width) (a .height) (a .fps) (a .duration-packed) (a .rate) (a .channels) in
+    λ i. record { bytes = e i; width = a .width; height = a .height; fps = a .fps; rate = a .rate; channels = a .channels }
+
+pub build-prelude-bytes-spec : {M : Type 1} → statement M
+build-prelude-bytes-spec =
+    tie.close
+    (tie.spec
+    slice-aggregate-write-layout
+    write-layout-requires
+    slice-aggregate-write-header-body
+    write-header-body-requires
+    slice-aggregate-write-wave-format
+    write-wave-format-requires
+    returns)

@@ -1,0 +1,74 @@
+use mathlib.Core.Path.{_≡_, refl, sym, ap, _∙_, subst}
+use Prim.Native.Nat.{ℕ, _≤_, _-_}
+use native.Mathlib.Omega.{arith}
+use borrow.Author.Needs.{needs}
+use lib.ListN.{length, drop}
+use Rattle.prelude.specs.Layout.{layout}
+use Rattle.prelude.specs.Stores.{Within, writeItem, writeItems}
+use Rattle.prelude.proofs.Stored.{within, written-step}
+use Rattle.prelude.proofs.build.write_layout.Statement.{statement}
+use Rattle.prelude.proofs.build.write_layout.Tie as tie
+use Rattle.prelude.proofs.build.write_layout.Reads as reads
+use Rattle.prelude.proofs.build.write_layout.Lts as lts
+use Rattle.prelude.proofs.build.write_item.Reads as write-item-reads
+use Rattle.prelude.proofs.layout.LayoutItem.at.Reads as at-reads
+
+abbrev Inv-loop : tie.InvT-loop
+Inv-loop bytes₀ i₀ bytes i = (i ≤ 22) × (length bytes ≡ length bytes₀) × (writeItems bytes (drop i layout) ≡ writeItems bytes₀ layout)
+
+abbrev μ-loop : tie.MeasureT-loop
+μ-loop bytes₀ i₀ bytes i = 22 - i
+
+-- src/build.rt:39:5
+loop-holds : tie.Need-loop-holds Inv-loop μ-loop
+loop-holds c = (omega arith, refl, refl)
+
+-- src/build.rt:40:27
+at-requires : tie.Need-at-requires Inv-loop μ-loop
+at-requires c κs = search needs
+
+-- src/build.rt:40:9
+write-item-requires : tie.Need-write-item-requires Inv-loop μ-loop
+write-item-requires c κs = (omega arith, rw (c .at .ensures) (within _))
+
+-- src/build.rt:41:9
+add-i : tie.Need-add-i Inv-loop μ-loop
+add-i c = omega arith
+
+-- src/build.rt:39:5
+loop-less : tie.Need-loop-less Inv-loop μ-loop
+loop-less c = omega arith
+
+-- src/build.rt:39:5
+loop-again : tie.Need-loop-again Inv-loop μ-loop
+unfolding layout
+loop-again c = let l = c .before .before .before .before .before .before .loop in
+    let w = c .before .before .write-item in
+    let at = c .before .before .before .at .ensures in
+    (omega arith, omega arith, rw (w .ensures, at) (sym (written-step (l .bytes) layout (l .i) (omega arith)) ∙ l .inv .2))
+
+-- src/build.rt:34:1
+same-length : tie.Need-same-length Inv-loop μ-loop
+same-length c = c .before .loop .inv .1
+
+-- src/build.rt:34:1
+returns : tie.Need-returns Inv-loop μ-loop
+unfolding layout writeItems
+returns c = let l = c .before .loop in
+    let e : l .i ≡ 22 = omega arith in
+    rw e at (l .inv .2)
+
+pub write-layout-spec : {M : Type 1} → statement M
+write-layout-spec =
+    tie.close
+    (tie.spec
+    Inv-loop
+    μ-loop
+    loop-holds
+    at-requires
+    write-item-requires
+    add-i
+    loop-less
+    loop-again
+    same-length
+    returns)
