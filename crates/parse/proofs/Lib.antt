@@ -1,4 +1,1 @@
-pub mod Durations
-pub mod Chunks
-pub mod Interleaves
 pub mod Cases

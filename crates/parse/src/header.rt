@@ -1,12 +1,12 @@
 // The 56-byte body of `amvh`.
-use crate::duration::AmvDuration;
+use duration::AmvDuration;
 use error::AmvError;
 use error::AmvResult;
 ghost use mathlib.Core.Path.{_≡_};
 ghost use Prim.Native.Nat.{_*_};
 ghost use lib.IntN.{pos};
 ghost use Rattle.error.specs.Refusal.{said};
-ghost use Rattle.parse.specs.Duration.{durationOf, totalSeconds};
+ghost use Rattle.duration.specs.Duration.{durationOf, totalSeconds};
 ghost use Rattle.parse.specs.Header.{headerOf, saidHeader, headerSentinels};
 
 pub struct AmvHeader {

@@ -13,7 +13,7 @@ use Rattle.error.specs.Answer.{Answer, accepted, ask, andThen}
 use Rattle.fields.specs.Capped.{quotient}
 use Rattle.fields.specs.Le.{le, leBytes, put}
 use Rattle.fields.proofs.Laws.{le-leBytes}
-use Rattle.parse.specs.File.{withinLimit}
+use Rattle.fields.specs.File.{withinLimit}
 use Rattle.parse.specs.Header.{headerFields, headerSentinels}
 use Rattle.parse.specs.WaveFormat.{averageOf, cbSizeOf, waveFormatFields, waveFormatSentinels}
 use Rattle.parse.specs.declared.header.AmvHeader.{AmvHeader}

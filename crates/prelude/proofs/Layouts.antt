@@ -10,7 +10,7 @@ use lib.Seq.{drop-cons}
 use Rattle.error.specs.Answer.{Answer, accepted, ask, andThen}
 use Rattle.error.proofs.Answers.{then-passed, ask-passed}
 use Rattle.prelude.specs.Layout.{layout, past, askWord, askItem, askItems, movi}
-use Rattle.parse.specs.File.{withinLimit}
+use Rattle.fields.specs.File.{withinLimit}
 use Rattle.prelude.specs.Prelude.{preludeFields, parseOf}
 use Rattle.prelude.specs.declared.layout.LayoutItem.{LayoutItem}
 use Rattle.prelude.specs.declared.prelude.AmvPrelude.{AmvPrelude}

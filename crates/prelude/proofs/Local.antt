@@ -12,7 +12,7 @@ use lib.ListN.{length, take, drop, getD, length-take}
 use lib.Seq.{take-take, take-nil, getD-take, take-at}
 use Rattle.error.specs.Answer.{Answer, accepted, ask, andThen}
 use Rattle.fields.proofs.Laws.{le-take}
-use Rattle.parse.specs.File.{withinLimit, fileLimit}
+use Rattle.fields.specs.File.{withinLimit, fileLimit}
 use Rattle.parse.specs.Header.{headerFields}
 use Rattle.parse.specs.WaveFormat.{waveFormatFields}
 use Rattle.prelude.specs.Layout.{layout, askWord, askBody, askItem, askItems}

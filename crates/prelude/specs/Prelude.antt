@@ -5,7 +5,7 @@ use lib.Dec.{eqb}
 use lib.ListN.{take, drop, getD}
 use Rattle.error.specs.Answer.{Answer, accepted, refused, ask, andThen}
 use Rattle.error.specs.Refusal.{refusalOf}
-use Rattle.parse.specs.File.{withinLimit}
+use Rattle.fields.specs.File.{withinLimit}
 use Rattle.parse.specs.Header.{headerFields, headerSentinels}
 use Rattle.parse.specs.WaveFormat.{waveFormatFields, waveFormatSentinels}
 use Rattle.prelude.specs.Layout.{layout, askItems}

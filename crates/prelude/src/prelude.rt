@@ -145,7 +145,7 @@ impl AmvPrelude {
     pub fn parse(file: &[u8]) -> AmvPreludeResult
         ensures { λ r. ⌜ saidPrelude r ≡ parseOf (now (file .entry)) ⌝ }
     {
-        if !parse::file::within_limit(file) {
+        if !fields::file::within_limit(file) {
             return AmvPreludeResult::Err(AmvError::FileTooLong);
         }
         match require_layout(file) {

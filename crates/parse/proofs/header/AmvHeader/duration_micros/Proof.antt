@@ -4,13 +4,13 @@ use Prim.Native.Nat.{ℕ, _*_}
 use lib.IntN.{pos}
 use mir.Syntax.{w64}
 use mir.ValLaws.{toZ-pos}
-use Rattle.parse.specs.Duration.{durationOf, totalSeconds}
+use Rattle.duration.specs.Duration.{durationOf, totalSeconds}
 use borrow.Author.Needs.{needs}
 use Rattle.parse.proofs.header.AmvHeader.duration_micros.Statement.{statement}
 use Rattle.parse.proofs.header.AmvHeader.duration_micros.Tie as tie
 use Rattle.parse.proofs.header.AmvHeader.duration_micros.Reads as reads
 use Rattle.parse.proofs.header.AmvHeader.duration_micros.Lts as lts
-use Rattle.parse.proofs.duration.AmvDuration.total_seconds.Reads as total-seconds-reads
+use Rattle.duration.proofs.AmvDuration.total_seconds.Reads as total-seconds-reads
 use Rattle.parse.proofs.header.AmvHeader.duration.Reads as duration-reads
 
 -- src/header.rt:54:23

@@ -1,0 +1,20 @@
+use borrow.Author.Tests.{eq-eqb, ne-eqb}
+use Rattle.chunk.proofs.ChunkKind.classify.Statement.{statement}
+use Rattle.chunk.proofs.ChunkKind.classify.Tie as tie
+use Rattle.chunk.proofs.ChunkKind.classify.Reads as reads
+use Rattle.chunk.proofs.ChunkKind.classify.Lts as lts
+
+-- src/chunk.rt:19:5
+returns : tie.Need-returns
+returns c = simp (eq-eqb _ _ (c .if1 .taken))
+
+-- src/chunk.rt:19:5
+returns-2 : tie.Need-returns-2
+returns-2 c = simp (ne-eqb _ _ (c .before .if1 .left), eq-eqb _ _ (c .if2 .taken))
+
+-- src/chunk.rt:19:5
+returns-3 : tie.Need-returns-3
+returns-3 c = simp (ne-eqb _ _ (c .before .if1 .left), ne-eqb _ _ (c .if2 .left))
+
+pub classify-spec : {M : Type 1} → statement M
+classify-spec = tie.close (tie.spec returns returns-2 returns-3)

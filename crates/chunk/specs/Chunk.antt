@@ -1,0 +1,37 @@
+-- A chunk's tag, kind and header. Assumes nothing.
+use Prim.Native.Nat.{ℕ}
+use mathlib.Core.Bool.{cond}
+use mathlib.Core.List.{List}
+use lib.Dec.{leb, eqb}
+use lib.ListN.{length}
+use Rattle.error.specs.Answer.{Answer, accepted, refused, ask}
+use Rattle.error.specs.Refusal.{refusalOf}
+use Rattle.fields.specs.Le.{le}
+use Rattle.chunk.specs.declared.ChunkKind.{ChunkKind}
+use Rattle.chunk.specs.declared.ChunkKind.the-variants.{Video, Audio, Other}
+use Rattle.chunk.specs.declared.ChunkHeader.{ChunkHeader}
+use Rattle.chunk.specs.declared.ChunkHeaderResult.{ChunkHeaderResult}
+use Rattle.chunk.specs.declared.ChunkHeaderResult.the-variants.{Ok, Err}
+
+-- 01: "tag `00dc` (stream 0) or `01wb` (stream 1)", as little-endian numbers; `Cases` spells them out
+abbrev pub videoTag : ℕ
+videoTag = 0x63643030
+
+abbrev pub audioTag : ℕ
+audioTag = 0x62773130
+
+abbrev pub kindOf : ℕ → ChunkKind
+kindOf tag = cond (eqb tag videoTag) Video (cond (eqb tag audioTag) Audio (Other tag))
+
+abbrev pub tagOf : ChunkKind → ℕ
+tagOf Video = videoTag
+tagOf Audio = audioTag
+tagOf (Other tag) = tag
+
+-- 01: "`ChunkHeader::parse` 8? 29."
+unfoldable pub chunkHeaderOf : List ℕ → Answer ChunkHeader
+chunkHeaderOf s = ask (leb 8 (length s)) 29 0 (accepted (record { tag = le 4 s 0; size = le 4 s 4 }))
+
+abbrev pub saidChunkHeader : ChunkHeaderResult → Answer ChunkHeader
+saidChunkHeader (Ok h) = accepted h
+saidChunkHeader (Err e) = refused (refusalOf e)

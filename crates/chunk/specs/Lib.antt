@@ -1,0 +1,3 @@
+pub mod Chunk
+pub mod Interleave
+pub mod Cases

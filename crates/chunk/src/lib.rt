@@ -1,0 +1,79 @@
+// A chunk's tag and its 8-byte header.
+pub mod interleave;
+
+use error::AmvError;
+ghost use mathlib.Core.Path.{_≡_};
+ghost use Prim.Native.Nat.{_+_};
+ghost use Rattle.chunk.specs.Chunk.{kindOf, tagOf, saidChunkHeader, chunkHeaderOf};
+
+// Tags are numbers, little-endian, so that one comparison tells them apart.
+pub const VIDEO_CHUNK_TAG: u32 = 0x63643030; // 00dc
+
+pub const AUDIO_CHUNK_TAG: u32 = 0x62773130; // 01wb
+
+pub enum ChunkKind {
+    Video,
+    Audio,
+    Other(u32),
+}
+
+impl ChunkKind {
+    pub fn classify(tag: u32) -> ChunkKind
+        ensures { λ r. ⌜ r ≡ kindOf tag ⌝ }
+    {
+        if tag == VIDEO_CHUNK_TAG {
+            ChunkKind::Video
+        } else if tag == AUDIO_CHUNK_TAG {
+            ChunkKind::Audio
+        } else {
+            ChunkKind::Other(tag)
+        }
+    }
+
+    pub fn tag(self) -> u32
+        ensures { λ r. ⌜ r ≡ tagOf self ⌝ }
+    {
+        match self {
+            ChunkKind::Video => VIDEO_CHUNK_TAG,
+            ChunkKind::Audio => AUDIO_CHUNK_TAG,
+            ChunkKind::Other(tag) => tag,
+        }
+    }
+}
+
+pub struct ChunkHeader {
+    pub tag: u32,
+    // Of the payload alone, without this header.
+    pub size: u32,
+}
+
+pub enum ChunkHeaderResult {
+    Ok(ChunkHeader),
+    Err(AmvError),
+}
+
+impl ChunkHeader {
+    pub fn parse(slice: &[u8]) -> ChunkHeaderResult
+        ensures { λ r. ⌜ saidChunkHeader r ≡ chunkHeaderOf (now (slice .entry)) ⌝ }
+    {
+        if slice.len() < 8 {
+            return ChunkHeaderResult::Err(AmvError::ChunkHeaderTooShort);
+        }
+        let tag = fields::read_u32_le(slice, 0);
+        let size = fields::read_u32_le(slice, 4);
+        ChunkHeaderResult::Ok(ChunkHeader { tag, size })
+    }
+
+    // The distance to the next chunk. No padding: an odd payload is followed at once.
+    pub fn advance_total(self) -> u64
+        ensures { λ r. ⌜ r ≡ 8 + self .size ⌝ }
+    {
+        8 + (self.size as u64)
+    }
+
+    pub fn kind(self) -> ChunkKind
+        ensures { λ r. ⌜ r ≡ kindOf (self .tag) ⌝ }
+    {
+        ChunkKind::classify(self.tag)
+    }
+}

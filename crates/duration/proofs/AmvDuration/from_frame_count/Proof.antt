@@ -1,0 +1,30 @@
+use borrow.Author.Tests.{eq-eqb, ne-eqb}
+use Rattle.duration.specs.Duration.{runLength}
+use borrow.Author.Needs.{needs}
+use Rattle.duration.proofs.AmvDuration.from_frame_count.Statement.{statement}
+use Rattle.duration.proofs.AmvDuration.from_frame_count.Tie as tie
+use Rattle.duration.proofs.AmvDuration.from_frame_count.Reads as reads
+use Rattle.duration.proofs.AmvDuration.from_frame_count.Lts as lts
+use Rattle.duration.proofs.AmvDuration.from_seconds.Reads as from-seconds-reads
+
+-- src/duration.rt:61:13
+returns : tie.Need-returns
+unfolding runLength
+returns c = simp (eq-eqb _ _ (c .if1 .taken))
+
+-- src/duration.rt:67:35
+div-from-seconds : tie.Need-div-from-seconds
+div-from-seconds c = search needs
+
+-- src/duration.rt:67:9
+from-seconds-requires : tie.Need-from-seconds-requires
+from-seconds-requires c κs = search needs
+
+-- src/duration.rt:57:5
+returns-2 : tie.Need-returns-2
+unfolding runLength
+returns-2 c = simp (ne-eqb _ _ (c .before .if1 .left)) (c .from-seconds .ensures)
+
+pub from-frame-count-spec : {M : Type 1} → statement M
+from-frame-count-spec =
+    tie.close (tie.spec returns div-from-seconds from-seconds-requires returns-2)

@@ -1,0 +1,32 @@
+use mathlib.Core.Path.{_≡_, refl}
+use Prim.Native.Nat.{_%_, _/_}
+use Rattle.fields.specs.Le.{leBytes}
+use Rattle.duration.specs.Duration.{durationOf}
+use native.Mathlib.Omega.{arith}
+use borrow.Author.Needs.{needs}
+use Rattle.duration.proofs.AmvDuration.from_packed.Statement.{statement}
+use Rattle.duration.proofs.AmvDuration.from_packed.Tie as tie
+use Rattle.duration.proofs.AmvDuration.from_packed.Reads as reads
+use Rattle.duration.proofs.AmvDuration.from_packed.Lts as lts
+
+-- src/duration.rt:24:22
+cast-t3 : tie.Need-cast-t3
+cast-t3 c = search needs
+
+-- src/duration.rt:25:22
+cast-t6 : tie.Need-cast-t6
+cast-t6 c = search needs
+
+-- src/duration.rt:26:20
+cast-t9 : tie.Need-cast-t9
+cast-t9 c = search needs
+
+-- src/duration.rt:20:5
+returns : tie.Need-returns
+unfolding durationOf leBytes
+returns c = let p = c .args .packed in
+    let h : p / 65536 % 256 ≡ p / 256 / 256 % 256 = omega arith in
+    λ i. record { seconds = p % 256; minutes = p / 256 % 256; hours = h i }
+
+pub from-packed-spec : {M : Type 1} → statement M
+from-packed-spec = tie.close (tie.spec cast-t3 cast-t6 cast-t9 returns)

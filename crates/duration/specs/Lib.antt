@@ -1,0 +1,2 @@
+pub mod Duration
+pub mod Cases

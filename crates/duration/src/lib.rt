@@ -1,0 +1,113 @@
+// The run length: hours, minutes and seconds, a byte each.
+ghost use mathlib.Core.Path.{_≡_};
+ghost use Rattle.duration.specs.Duration.{durationOf, packedOf, totalSeconds, ofSeconds, runLength, sameDuration, consistency, deviceConformant};
+
+pub struct AmvDuration {
+    pub seconds: u8,
+    pub minutes: u8,
+    pub hours: u8,
+}
+
+// How a header's run length relates to the one that a frame count gives.
+pub enum DurationConsistency {
+    Exact,
+    // One second less, as some devices write it.
+    TruncatedByOneSecond,
+    Mismatch,
+}
+
+impl AmvDuration {
+    pub fn from_packed(packed: u32) -> AmvDuration
+        ensures { λ r. ⌜ r ≡ durationOf packed ⌝ }
+    {
+        AmvDuration {
+            seconds: (packed % 256) as u8,
+            minutes: (packed / 256 % 256) as u8,
+            hours: (packed / 65536 % 256) as u8,
+        }
+    }
+
+    // The fourth byte is 0.
+    pub fn to_packed(self) -> u32
+        ensures { λ r. ⌜ r ≡ packedOf self ⌝ }
+    {
+        (self.seconds as u32) + 256 * (self.minutes as u32) + 65536 * (self.hours as u32)
+    }
+
+    pub fn total_seconds(self) -> u32
+        ensures { λ r. ⌜ r ≡ totalSeconds self ⌝ }
+    {
+        (self.hours as u32) * 3600 + (self.minutes as u32) * 60 + (self.seconds as u32)
+    }
+
+    // Hours and minutes are capped at what their byte holds; what the hours leave goes to the minutes.
+    fn from_seconds(total_seconds: u64) -> AmvDuration
+        ensures { λ r. ⌜ r ≡ ofSeconds «total_seconds» ⌝ }
+    {
+        let hours = fields::min(total_seconds / 3600, 255);
+        let after_hours = total_seconds - 3600 * hours;
+        let minutes = fields::min(after_hours / 60, 255);
+        AmvDuration {
+            seconds: (after_hours % 60) as u8,
+            minutes: minutes as u8,
+            hours: hours as u8,
+        }
+    }
+
+    pub fn from_frame_count(frame_count: u64, fps: u32) -> AmvDuration
+        ensures { λ r. ⌜ r ≡ runLength «frame_count» fps ⌝ }
+    {
+        if fps == 0 {
+            return AmvDuration {
+                seconds: 0,
+                minutes: 0,
+                hours: 0,
+            };
+        }
+        AmvDuration::from_seconds(frame_count / (fps as u64))
+    }
+
+    fn equals(self, other: AmvDuration) -> bool
+        ensures { λ r. ⌜ r ≡ sameDuration self other ⌝ }
+    {
+        if self.seconds != other.seconds {
+            return false;
+        }
+        if self.minutes != other.minutes {
+            return false;
+        }
+        self.hours == other.hours
+    }
+
+    pub fn is_consistent_with_frame_count(self, frame_count: u64, fps: u32) -> bool
+        ensures { λ r. ⌜ r ≡ sameDuration self (runLength «frame_count» fps) ⌝ }
+    {
+        self.equals(AmvDuration::from_frame_count(frame_count, fps))
+    }
+
+    pub fn consistency_with_frame_count(self, frame_count: u64, fps: u32) -> DurationConsistency
+        ensures { λ r. ⌜ r ≡ consistency self (runLength «frame_count» fps) ⌝ }
+    {
+        let derived = AmvDuration::from_frame_count(frame_count, fps);
+        if self.equals(derived) {
+            return DurationConsistency::Exact;
+        }
+        if self.total_seconds() + 1 == derived.total_seconds() {
+            return DurationConsistency::TruncatedByOneSecond;
+        }
+        DurationConsistency::Mismatch
+    }
+}
+
+impl DurationConsistency {
+    // Both shapes that devices write.
+    pub fn is_device_conformant(self) -> bool
+        ensures { λ r. ⌜ r ≡ deviceConformant self ⌝ }
+    {
+        match self {
+            DurationConsistency::Exact => true,
+            DurationConsistency::TruncatedByOneSecond => true,
+            DurationConsistency::Mismatch => false,
+        }
+    }
+}
