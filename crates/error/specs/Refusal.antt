@@ -2,7 +2,7 @@
 use Rattle.error.specs.Answer.{Answer, accepted, refused, numbered}
 use Rattle.error.specs.declared.Refusal.{Refusal}
 use Rattle.error.specs.declared.AmvError.{AmvError}
-use Rattle.error.specs.declared.AmvError.the-variants.{FileTooLong, Cut, WrongTag, WrongSize, ZeroFps, WrongMicros, WrongFlag, NonzeroReserved, NonzeroByte, WrongFormat, WrongChannels, WrongAverage, WrongAlign, WrongBits, WrongCbSize, PreambleTooShort, NoSamples, WaveFormatTooShort, HeaderTooShort, ChunkHeaderTooShort, VideoAtOddPosition, AudioAtEvenPosition, OtherAtPosition, OddChunkCount}
+use Rattle.error.specs.declared.AmvError.the-variants.{FileTooLong, Cut, WrongTag, WrongSize, ZeroFps, WrongMicros, WrongFlag, NonzeroReserved, NonzeroByte, WrongFormat, WrongChannels, WrongAverage, WrongAlign, WrongBits, WrongCbSize, PreambleTooShort, NoSamples, WaveFormatTooShort, HeaderTooShort, ChunkHeaderTooShort, UnknownTag, StateOutOfRange, TableTooShort, TableRagged, NoSuchStream, BadRecord, AlreadyBegun, NotBegun, PayloadTooLong, PacketOfNoStream, NoRoom, AlreadyEnded, PreludeMissing, VideoAtOddPosition, AudioAtEvenPosition, OtherAtPosition, OddChunkCount}
 use Rattle.error.specs.declared.AmvResult.{AmvResult}
 use Rattle.error.specs.declared.AmvResult.the-variants.{Ok, Err}
 
@@ -28,6 +28,19 @@ refusalOf NoSamples = numbered 26 0
 refusalOf WaveFormatTooShort = numbered 27 0
 refusalOf HeaderTooShort = numbered 28 0
 refusalOf ChunkHeaderTooShort = numbered 29 0
+refusalOf (UnknownTag place) = numbered 31 place
+refusalOf StateOutOfRange = numbered 32 0
+refusalOf TableTooShort = numbered 40 0
+refusalOf TableRagged = numbered 41 0
+refusalOf NoSuchStream = numbered 42 0
+refusalOf (BadRecord place) = numbered 43 place
+refusalOf (AlreadyBegun written) = numbered 50 written
+refusalOf (NotBegun written) = numbered 51 written
+refusalOf (PayloadTooLong written) = numbered 52 written
+refusalOf (PacketOfNoStream written) = numbered 53 written
+refusalOf (NoRoom written) = numbered 54 written
+refusalOf (AlreadyEnded written) = numbered 55 written
+refusalOf (PreludeMissing written) = numbered 56 written
 refusalOf (VideoAtOddPosition position) = numbered 62 position
 refusalOf (AudioAtEvenPosition position) = numbered 63 position
 refusalOf (OtherAtPosition position) = numbered 64 position

@@ -30,6 +30,19 @@ pub enum AmvError {
     WaveFormatTooShort,
     HeaderTooShort,
     ChunkHeaderTooShort,
+    UnknownTag(u64),
+    StateOutOfRange,
+    TableTooShort,
+    TableRagged,
+    NoSuchStream,
+    BadRecord(u64),
+    AlreadyBegun(u64),
+    NotBegun(u64),
+    PayloadTooLong(u64),
+    PacketOfNoStream(u64),
+    NoRoom(u64),
+    AlreadyEnded(u64),
+    PreludeMissing(u64),
     VideoAtOddPosition(u64),
     AudioAtEvenPosition(u64),
     OtherAtPosition(u64),
@@ -114,6 +127,52 @@ impl AmvError {
             AmvError::ChunkHeaderTooShort => Refusal {
                 number: 29,
                 place: 0,
+            },
+            AmvError::UnknownTag(place) => Refusal { number: 31, place },
+            AmvError::StateOutOfRange => Refusal {
+                number: 32,
+                place: 0,
+            },
+            AmvError::TableTooShort => Refusal {
+                number: 40,
+                place: 0,
+            },
+            AmvError::TableRagged => Refusal {
+                number: 41,
+                place: 0,
+            },
+            AmvError::NoSuchStream => Refusal {
+                number: 42,
+                place: 0,
+            },
+            AmvError::BadRecord(place) => Refusal { number: 43, place },
+            AmvError::AlreadyBegun(written) => Refusal {
+                number: 50,
+                place: written,
+            },
+            AmvError::NotBegun(written) => Refusal {
+                number: 51,
+                place: written,
+            },
+            AmvError::PayloadTooLong(written) => Refusal {
+                number: 52,
+                place: written,
+            },
+            AmvError::PacketOfNoStream(written) => Refusal {
+                number: 53,
+                place: written,
+            },
+            AmvError::NoRoom(written) => Refusal {
+                number: 54,
+                place: written,
+            },
+            AmvError::AlreadyEnded(written) => Refusal {
+                number: 55,
+                place: written,
+            },
+            AmvError::PreludeMissing(written) => Refusal {
+                number: 56,
+                place: written,
             },
             AmvError::VideoAtOddPosition(position) => Refusal {
                 number: 62,
