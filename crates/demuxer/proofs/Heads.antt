@@ -1,0 +1,19 @@
+-- What stands at an offset, by its tag and its length. Assumes nothing.
+use mathlib.Core.Path.{_≡_, refl}
+use mathlib.Core.Bool.{true, false}
+use mathlib.Core.List.{List}
+use Prim.Native.Nat.{ℕ, _+_, _≤_}
+use borrow.Author.Tests.{le-leb}
+use lib.ListN.{length}
+use Rattle.fields.specs.Le.{le}
+use Rattle.demuxer.specs.Head.{isTrailer, chunkHead, headAt}
+use Rattle.demuxer.specs.declared.head.Head.the-variants.{Trailer}
+
+module _ (file : List ℕ) (at : ℕ) (h : at + 8 ≤ length file) {tag size : ℕ} (t : tag ≡ le 4 file at) (s : size ≡ le 4 file (at + 4)) where
+  pub head-trailer : isTrailer tag size ≡ true → headAt file at ≡ Trailer
+  unfolding headAt
+  head-trailer e = rw (le-leb _ _ h, ← t, ← s, e)
+
+  pub head-chunk : isTrailer tag size ≡ false → headAt file at ≡ chunkHead tag size
+  unfolding headAt
+  head-chunk e = rw (le-leb _ _ h, ← t, ← s, e)

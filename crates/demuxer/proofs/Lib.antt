@@ -1,0 +1,4 @@
+pub mod Heads
+pub mod Ranges
+pub mod Bodies
+pub mod Steps

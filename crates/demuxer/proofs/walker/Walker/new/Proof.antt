@@ -1,0 +1,19 @@
+use mathlib.Core.Bool.{false}
+use Rattle.demuxer.specs.declared.walker.Trailer.the-variants.{NotMet}
+use borrow.Author.Needs.{needs}
+use Rattle.demuxer.proofs.walker.Walker.new.Statement.{statement}
+use Rattle.demuxer.proofs.walker.Walker.new.Tie as tie
+use Rattle.demuxer.proofs.walker.Walker.new.Reads as reads
+use Rattle.demuxer.proofs.walker.Walker.new.Lts as lts
+use Rattle.demuxer.proofs.position.Position.new.Reads as new-reads
+
+-- src/walker.rt:46:23
+new-requires : tie.Need-new-requires
+new-requires c κs = search needs
+
+-- src/walker.rt:42:5
+returns : tie.Need-returns
+returns c = λ i. record { position = c .new .ensures i; end = false; cut = false; trailer = NotMet }
+
+pub new-spec : {M : Type 1} → statement M
+new-spec = tie.close (tie.spec new-requires returns)

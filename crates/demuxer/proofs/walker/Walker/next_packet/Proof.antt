@@ -1,0 +1,68 @@
+use mathlib.Core.Path.{_≡_, sym, ap, _∙_}
+use borrow.Author.Tests.{not-true, not-false}
+use Rattle.demuxer.specs.Read.{readOf}
+use Rattle.demuxer.proofs.Ranges.{range-facts}
+use Rattle.demuxer.proofs.Steps.{read-on}
+use borrow.Author.Needs.{needs}
+use Rattle.demuxer.proofs.walker.Walker.next_packet.Statement.{statement}
+use Rattle.demuxer.proofs.walker.Walker.next_packet.Tie as tie
+use Rattle.demuxer.proofs.walker.Walker.next_packet.Reads as reads
+use Rattle.demuxer.proofs.walker.Walker.next_packet.Lts as lts
+use Rattle.demuxer.proofs.position.Position.in_range.Reads as in-range-reads
+use Rattle.demuxer.proofs.walker.Walker.read_chunk.Reads as read-chunk-reads
+use Rattle.fields.proofs.file.within_limit.Reads as within-limit-reads
+
+-- src/walker.rt:164:13
+within-limit-requires : tie.Need-within-limit-requires
+within-limit-requires c κs = search needs
+
+-- src/walker.rt:165:13
+returns : tie.Need-returns
+unfolding readOf
+returns c = rw (sym (c .before .within-limit .ensures) ∙ not-true _ (c .if1 .taken))
+
+-- src/walker.rt:171:13
+in-range-requires : tie.Need-in-range-requires
+in-range-requires c κs = search needs
+
+-- src/walker.rt:172:13
+returns-2 : tie.Need-returns-2
+unfolding readOf
+returns-2 c = rw (
+      sym (c .before .before .before .before .within-limit .ensures) ∙ not-false _ (c .before .before .before .if1 .left),
+      sym (c .before .in-range .ensures) ∙ not-true _ (c .if2 .taken)
+    )
+
+-- src/walker.rt:178:13
+returns-3 : tie.Need-returns-3
+unfolding readOf
+returns-3 c = rw (
+      sym (c .before .before .before .before .before .within-limit .ensures) ∙ not-false _ (c .before .before .before .before .if1 .left),
+      sym (c .before .before .in-range .ensures) ∙ not-false _ (c .before .if2 .left),
+      c .if3 .taken
+    )
+
+-- src/walker.rt:183:9
+read-chunk-requires : tie.Need-read-chunk-requires
+read-chunk-requires c κs = range-facts _ (sym (c .before .before .in-range .ensures) ∙ not-false _ (c .before .if2 .left))
+
+-- src/walker.rt:161:5
+returns-4 : tie.Need-returns-4
+returns-4 c =
+    let a = c .before .before .before .before .before .before .before .before .args in
+    c .read-chunk .ensures
+    ∙ sym
+    (read-on (a .file .now) (a .self) (sym (c .before .before .before .before .before .before .within-limit .ensures) ∙ not-false _ (c .before .before .before .before .before .if1 .left))
+    (sym (c .before .before .before .in-range .ensures) ∙ not-false _ (c .before .before .if2 .left)) (c .before .if3 .left))
+
+pub next-packet-spec : {M : Type 1} → statement M
+next-packet-spec =
+    tie.close
+    (tie.spec
+    within-limit-requires
+    returns
+    in-range-requires
+    returns-2
+    returns-3
+    read-chunk-requires
+    returns-4)

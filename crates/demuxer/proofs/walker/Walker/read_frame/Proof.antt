@@ -1,0 +1,71 @@
+use mathlib.Core.Path.{_≡_, sym, ap, _∙_}
+use Rattle.demuxer.specs.Packet.{shownOf}
+use Rattle.demuxer.specs.Read.{End, packet, advanced}
+use Rattle.demuxer.proofs.Steps.{frame-short, frame-whole}
+use borrow.Author.Needs.{needs}
+use Rattle.demuxer.proofs.walker.Walker.read_frame.Statement.{statement}
+use Rattle.demuxer.proofs.walker.Walker.read_frame.Tie as tie
+use Rattle.demuxer.proofs.walker.Walker.read_frame.Reads as reads
+use Rattle.demuxer.proofs.walker.Walker.read_frame.Lts as lts
+use Rattle.demuxer.proofs.head.body_at.Reads as body-at-reads
+use Rattle.demuxer.proofs.position.Position.past_frame.Reads as past-frame-reads
+use Rattle.demuxer.proofs.walker.Walker.advanced.Reads as advanced-reads
+use Rattle.demuxer.proofs.walker.Walker.cut_off.Reads as cut-off-reads
+
+-- src/walker.rt:92:53
+add-body-at : tie.Need-add-body-at
+add-body-at c = search needs
+
+-- src/walker.rt:92:39
+body-at-requires : tie.Need-body-at-requires
+body-at-requires c κs = search needs
+
+-- src/walker.rt:92:25
+enum-known-start : tie.Need-enum-known-start
+enum-known-start c = search needs
+
+-- src/walker.rt:94:25
+enum-told : tie.Need-enum-told
+enum-told c = search needs
+
+-- src/walker.rt:95:25
+cut-off-requires : tie.Need-cut-off-requires
+cut-off-requires c κs = search needs
+
+-- src/walker.rt:93:13
+returns : tie.Need-returns
+returns c =
+    let a = c .before .before .before .before .before .before .args in
+    let short = sym (c .before .before .before .body-at .ensures) ∙ c .before .enum-told .given .1 in
+    (λ i. record { answer = End; walker = c .cut-off .ensures i }) ∙ sym (frame-short (a .file .now) (a .self) (a .size) short)
+
+-- src/walker.rt:107:35
+past-frame-requires : tie.Need-past-frame-requires
+past-frame-requires c κs = search needs
+
+-- src/walker.rt:107:21
+advanced-requires : tie.Need-advanced-requires
+advanced-requires c κs = search needs
+
+-- src/walker.rt:86:5
+returns-2 : tie.Need-returns-2
+returns-2 c =
+    let a = c .before .before .before .before .before .before .before .before .args in
+    let got = c .before .before .before .start .given in
+    let whole = sym (c .before .before .before .before .before .body-at .ensures) ∙ got .1 in
+    let next = c .advanced .ensures ∙ ap (advanced (a .self)) (c .before .past-frame .ensures) in
+    sym (frame-whole (a .file .now) (a .self) (a .size) _ _ _ whole next)
+
+pub read-frame-spec : {M : Type 1} → statement M
+read-frame-spec =
+    tie.close
+    (tie.spec
+    add-body-at
+    body-at-requires
+    enum-known-start
+    enum-told
+    cut-off-requires
+    returns
+    past-frame-requires
+    advanced-requires
+    returns-2)

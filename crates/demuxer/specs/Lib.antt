@@ -1,0 +1,4 @@
+pub mod Position
+pub mod Head
+pub mod Packet
+pub mod Read

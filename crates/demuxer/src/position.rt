@@ -1,0 +1,83 @@
+// Where a walker stands. A frame count never stands where a sample count belongs, nor a block count.
+ghost use mathlib.Core.Path.{_≡_};
+ghost use Rattle.demuxer.specs.Position.{start, inRange, InRange, pastFrame, pastSound};
+
+pub struct FrameStamp(pub u64);
+
+pub struct SampleStamp(pub u64);
+
+pub struct BlockCount(pub u64);
+
+// A chunk's offset, and the frames, samples and blocks before it.
+pub struct Position {
+    pub cursor: u64,
+    pub frames: FrameStamp,
+    pub samples: SampleStamp,
+    pub blocks: BlockCount,
+}
+
+// The most that a cursor or a counter may be.
+pub const COUNT_LIMIT: u64 = 4611686018427387904;
+
+impl Position {
+    // The offset of the first chunk.
+    pub const START: u64 = 316;
+
+    pub fn new() -> Position
+        ensures { λ r. ⌜ r ≡ start ⌝ }
+    {
+        Position {
+            cursor: Position::START,
+            frames: FrameStamp(0),
+            samples: SampleStamp(0),
+            blocks: BlockCount(0),
+        }
+    }
+
+    pub fn in_range(self) -> bool
+        ensures { λ r. ⌜ r ≡ inRange self ⌝ }
+    {
+        if COUNT_LIMIT < self.cursor {
+            return false;
+        }
+        if COUNT_LIMIT < self.frames.0 {
+            return false;
+        }
+        if COUNT_LIMIT < self.samples.0 {
+            return false;
+        }
+        if COUNT_LIMIT < self.blocks.0 {
+            return false;
+        }
+        true
+    }
+
+    // Past a frame of a length: no padding, so exactly 8 more than the length.
+    pub fn past_frame(self, size: u32) -> Position
+        requires { ⌜ InRange self ⌝ }
+        ensures { λ r. ⌜ r ≡ pastFrame self size ⌝ }
+    {
+        let samples = self.samples;
+        let blocks = self.blocks;
+        Position {
+            cursor: self.cursor + (8 + size as u64),
+            frames: FrameStamp(self.frames.0 + 1),
+            samples,
+            blocks,
+        }
+    }
+
+    // Past a sound block of a length and a sample count.
+    pub fn past_sound(self, size: u32, count: u32) -> Position
+        requires { ⌜ InRange self ⌝ }
+        ensures { λ r. ⌜ r ≡ pastSound self size count ⌝ }
+    {
+        let frames = self.frames;
+        Position {
+            cursor: self.cursor + (8 + size as u64),
+            frames,
+            samples: SampleStamp(self.samples.0 + count as u64),
+            blocks: BlockCount(self.blocks.0 + 1),
+        }
+    }
+}
