@@ -16,7 +16,7 @@ module _ (p : Position) where
         le-leb (p .cursor) countLimit (r .cursor-in),
         le-leb (p .frames .0) countLimit (r .frames-in),
         le-leb (p .samples .0) countLimit (r .samples-in),
-        le-leb (p .blocks .0) countLimit (r .blocks-in)
+        le-leb (p .blocks .0) countLimit (r .blocks-in),
       )
 
   pub range-facts : inRange p ≡ true → InRange p
@@ -30,7 +30,7 @@ module _ (p : Position) where
             cursor-in = leb-true (p .cursor) countLimit f;
             frames-in = leb-true (p .frames .0) countLimit g;
             samples-in = leb-true (p .samples .0) countLimit h;
-            blocks-in = leb-true (p .blocks .0) countLimit k
+            blocks-in = leb-true (p .blocks .0) countLimit k;
           }
       go true true true false f g h k t = let z : _≡_ {A = ℕ} 0 1 = cc in absurd (omega arith)
       go true true false d f g h k t = let z : _≡_ {A = ℕ} 0 1 = cc in absurd (omega arith)

@@ -30,10 +30,10 @@ module _ (file : List ℕ) (w : Walker) (size : ℕ) where
   pub frame-whole : (s n : ℕ) (x : Walker) → bodyAt file (w .position .cursor + 8) size ≡ Whole s n → x ≡ advanced w (pastFrame (w .position) size)
       → readFrame file w size
       ≡ saidRead file
-        (record {
-          answer = next.Packet (record { stream = 0; start = s; len = n; stamp = w .position .frames .0; duration = Ticks 1 });
-          walker = x
-        })
+      (record {
+        answer = next.Packet (record { stream = 0; start = s; len = n; stamp = w .position .frames .0; duration = Ticks 1 });
+        walker = x;
+      })
   unfolding readFrame payloadOf shownOf
   frame-whole s n x e o =
       let b = body-whole file (w .position .cursor + 8) size s n e in
@@ -43,10 +43,10 @@ module _ (file : List ℕ) (w : Walker) (size : ℕ) where
       → count ≡ countOf (take size (drop s file)) → d ≡ durationOf count → x ≡ advanced w (pastSound (w .position) size count)
       → readSound file w size
       ≡ saidRead file
-        (record {
-          answer = next.Packet (record { stream = 1; start = s; len = n; stamp = w .position .samples .0; duration = d });
-          walker = x
-        })
+      (record {
+        answer = next.Packet (record { stream = 1; start = s; len = n; stamp = w .position .samples .0; duration = d });
+        walker = x;
+      })
   unfolding readSound payloadOf shownOf
   sound-whole s n count d x e p q o =
       let b = body-whole file (w .position .cursor + 8) size s n e in
@@ -59,5 +59,6 @@ read-on file w a b c = yes _ _ a ∙ yes _ _ b ∙ no _ _ c
   where
     yes : {A : Type 0} {t : Bool} (x y : A) → t ≡ true → cond t x y ≡ x
     yes x y e = rw e
+
     no : {A : Type 0} {t : Bool} (x y : A) → t ≡ false → cond t x y ≡ y
     no x y e = rw e

@@ -29,18 +29,18 @@ in-range-requires c κs = search needs
 returns-2 : tie.Need-returns-2
 unfolding readOf
 returns-2 c = rw (
-      sym (c .before .before .before .before .within-limit .ensures) ∙ not-false _ (c .before .before .before .if1 .left),
-      sym (c .before .in-range .ensures) ∙ not-true _ (c .if2 .taken)
-    )
+  sym (c .before .before .before .before .within-limit .ensures) ∙ not-false _ (c .before .before .before .if1 .left),
+  sym (c .before .in-range .ensures) ∙ not-true _ (c .if2 .taken),
+)
 
 -- src/walker.rt:178:13
 returns-3 : tie.Need-returns-3
 unfolding readOf
 returns-3 c = rw (
-      sym (c .before .before .before .before .before .within-limit .ensures) ∙ not-false _ (c .before .before .before .before .if1 .left),
-      sym (c .before .before .in-range .ensures) ∙ not-false _ (c .before .if2 .left),
-      c .if3 .taken
-    )
+  sym (c .before .before .before .before .before .within-limit .ensures) ∙ not-false _ (c .before .before .before .before .if1 .left),
+  sym (c .before .before .in-range .ensures) ∙ not-false _ (c .before .if2 .left),
+  c .if3 .taken,
+)
 
 -- src/walker.rt:183:9
 read-chunk-requires : tie.Need-read-chunk-requires

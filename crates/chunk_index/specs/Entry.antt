@@ -1,0 +1,62 @@
+-- A record of the index, and its 24 bytes. Assumes nothing.
+use Prim.Native.Nat.{ℕ, zero, suc, _+_, _*_, _/_, _<_}
+use mathlib.Core.List.{List, [], _∷_, _++_}
+use lib.ListN.{length}
+use Rattle.chunk.specs.Chunk.{videoTag, audioTag}
+use Rattle.fields.specs.Le.{le, leBytes}
+use Rattle.demuxer.specs.declared.position.Position.{Position}
+use Rattle.chunk_index.specs.declared.entry.ChunkIndexEntry.{ChunkIndexEntry}
+use Rattle.chunk_index.specs.Walk.{Kind, frame, sound}
+
+-- 01: "Records are 24 bytes, no header"
+abbrev pub entryLen : ℕ
+entryLen = 24
+
+abbrev pub kindTag : Kind → ℕ
+kindTag frame = videoTag
+kindTag sound = audioTag
+
+abbrev pub entry : Kind → Position → ChunkIndexEntry
+entry kind p = record { tag = kindTag kind; position = p }
+
+-- "tag, u32 offset, u32 frames before, u32 blocks before, u64 samples before"
+unfoldable pub entryBytes : ChunkIndexEntry → List ℕ
+entryBytes e =
+    leBytes 4 (e .tag)
+    ++ (leBytes 4 (e .position .cursor)
+    ++ (leBytes 4 (e .position .frames .0)
+    ++ (leBytes 4 (e .position .blocks .0)
+    ++ leBytes 8 (e .position .samples .0))))
+
+-- what the three 32-bit fields of a record can hold
+pub record Small (p : Position) : Type 0 where
+  pub cursor-small : p .cursor < 4294967296
+  pub frames-small : p .frames .0 < 4294967296
+  pub blocks-small : p .blocks .0 < 4294967296
+
+unfoldable pub tableBytes : List ChunkIndexEntry → List ℕ
+tableBytes [] = []
+tableBytes (e ∷ es) = entryBytes e ++ tableBytes es
+
+-- the record at an offset of a table
+unfoldable pub entryAt : List ℕ → ℕ → ChunkIndexEntry
+entryAt table at =
+    record {
+      tag = le 4 table at;
+      position =
+          record {
+            cursor = le 4 table (at + 4);
+            frames = record { 0 = le 4 table (at + 8) };
+            samples = record { 0 = le 8 table (at + 16) };
+            blocks = record { 0 = le 4 table (at + 12) };
+          };
+    }
+
+-- n records from an offset on
+unfoldable pub entriesFrom : ℕ → List ℕ → ℕ → List ChunkIndexEntry
+entriesFrom zero table at = []
+entriesFrom (suc n) table at = entryAt table at ∷ entriesFrom n table (at + entryLen)
+
+-- the records of a whole table
+abbrev pub entriesOf : List ℕ → List ChunkIndexEntry
+entriesOf table = entriesFrom (length table / entryLen) table 0

@@ -1,0 +1,89 @@
+-- `build_chunk_index` and the summary. Assumes nothing.
+use Prim.Native.Nat.{ℕ, suc, _+_, _*_, min}
+use mathlib.Core.Path.{_≡_}
+use mathlib.Core.Bool.{Bool, true, cond}
+use mathlib.Core.List.{List, [], _∷_}
+use lib.Dec.{leb}
+use lib.ListN.{length}
+use Rattle.error.specs.Answer.{Answer, accepted, refused, numbered, ask, andThen}
+use Rattle.error.specs.Refusal.{refusalOf}
+use Rattle.fields.specs.File.{withinLimit}
+use Rattle.fields.specs.Le.{put}
+use Rattle.demuxer.specs.Position.{start}
+use Rattle.demuxer.specs.declared.position.Position.{Position}
+use Rattle.chunk_index.specs.Walk.{Kind, frame, sound, Stop, ranOut, trailer, unknownTag, Walk, stop, chunk, walk, past}
+use Rattle.chunk_index.specs.Entry.{entryLen, entry, tableBytes}
+use Rattle.chunk_index.specs.declared.entry.ChunkIndexEntry.{ChunkIndexEntry}
+use Rattle.chunk_index.specs.declared.index.Summary.{Summary}
+use Rattle.chunk_index.specs.declared.index.SummaryResult.{SummaryResult}
+use Rattle.chunk_index.specs.declared.index.SummaryResult.the-variants as summary
+use Rattle.chunk_index.specs.declared.index.IndexResult.{IndexResult}
+use Rattle.chunk_index.specs.declared.index.IndexResult.the-variants as index
+
+-- 01: "A frame is recorded though its body is cut; sound only if min(8, length) payload bytes are there."
+abbrev pub recorded : Kind → List ℕ → ℕ → Bool
+recorded frame payload missing = true
+recorded sound payload missing = leb (min 8 (length payload + missing)) (length payload)
+
+-- the records that a walk makes from a position
+unfoldable pub records : Position → Walk → List ChunkIndexEntry
+records p (stop s) = []
+records p (chunk kind payload missing rest) =
+    cond (recorded kind payload missing) (entry kind p ∷ records (past p kind payload missing) rest) []
+
+-- "Tag known? 31, place the chunk's offset."
+abbrev pub stopKnown : Position → Stop → Answer Unit
+stopKnown p ranOut = accepted tt
+stopKnown p (trailer n) = accepted tt
+stopKnown p unknownTag = refused (numbered 31 (p .cursor))
+
+unfoldable pub tagsKnown : Position → Walk → Answer Unit
+tagsKnown p (stop s) = stopKnown p s
+tagsKnown p (chunk kind payload missing rest) =
+    cond (recorded kind payload missing) (tagsKnown (past p kind payload missing) rest) (accepted tt)
+
+-- "walks from 316"
+abbrev pub fileWalk : List ℕ → Walk
+fileWalk file = walk file 316
+
+-- "File limit, 10, comes first."
+unfoldable pub indexOf : List ℕ → Answer (List ChunkIndexEntry)
+indexOf file = ask (withinLimit file) 10 0 (andThen (tagsKnown start (fileWalk file)) (λ _. accepted (records start (fileWalk file))))
+
+-- what the call answers, and the table as it leaves it
+pub record Built : Type 0 where
+  pub answer : Answer ℕ
+  pub table : List ℕ
+
+-- "Table holds all records? 40, place 0, after the walk. .. The answer is their count; bytes after them stay."
+abbrev pub builtFrom : List ℕ → Answer (List ChunkIndexEntry) → Built
+builtFrom table (accepted es) = record { answer = accepted (length es); table = put table 0 (tableBytes es) }
+builtFrom table (refused r) = record { answer = refused r; table = table }
+
+unfoldable pub buildOf : List ℕ → List ℕ → Built
+buildOf file table =
+    builtFrom table (andThen (indexOf file) (λ es. ask (leb (entryLen * length es) (length table)) 40 0 (accepted es)))
+
+abbrev pub saidIndex : IndexResult → Answer ℕ
+saidIndex (index.Ok n) = accepted n
+saidIndex (index.Err e) = refused (refusalOf e)
+
+-- of frames and blocks, how many
+abbrev pub counted : Kind → Summary → Summary
+counted frame s = record { frames = s .frames + 1; blocks = s .blocks }
+counted sound s = record { frames = s .frames; blocks = s .blocks + 1 }
+
+-- "frames and blocks as counts of the records its index walk makes", on top of s
+unfoldable pub countsFrom : Summary → Walk → Summary
+countsFrom s (stop e) = s
+countsFrom s (chunk kind payload missing rest) = cond (recorded kind payload missing) (countsFrom (counted kind s) rest) s
+
+-- 01's summary: "10, then 31, as there"
+unfoldable pub summaryOf : List ℕ → Answer Summary
+summaryOf file =
+    ask (withinLimit file) 10 0
+    (andThen (tagsKnown start (fileWalk file)) (λ _. accepted (countsFrom (record { frames = 0; blocks = 0 }) (fileWalk file))))
+
+abbrev pub saidSummary : SummaryResult → Answer Summary
+saidSummary (summary.Ok s) = accepted s
+saidSummary (summary.Err e) = refused (refusalOf e)
