@@ -1,1 +1,6 @@
+pub mod Walks
+pub mod Folds
 pub mod Entries
+pub mod Counting
+pub mod Writing
+pub mod Building

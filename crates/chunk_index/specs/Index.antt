@@ -14,7 +14,7 @@ use Rattle.demuxer.specs.declared.position.Position.{Position}
 use Rattle.chunk_index.specs.Walk.{Kind, frame, sound, Stop, ranOut, trailer, unknownTag, Walk, stop, chunk, walk, past}
 use Rattle.chunk_index.specs.Entry.{entryLen, entry, tableBytes}
 use Rattle.chunk_index.specs.declared.entry.ChunkIndexEntry.{ChunkIndexEntry}
-use Rattle.chunk_index.specs.declared.index.Summary.{Summary}
+use Rattle.chunk_index.specs.declared.index.ChunkCounts.{ChunkCounts}
 use Rattle.chunk_index.specs.declared.index.SummaryResult.{SummaryResult}
 use Rattle.chunk_index.specs.declared.index.SummaryResult.the-variants as summary
 use Rattle.chunk_index.specs.declared.index.IndexResult.{IndexResult}
@@ -32,15 +32,15 @@ records p (chunk kind payload missing rest) =
     cond (recorded kind payload missing) (entry kind p ∷ records (past p kind payload missing) rest) []
 
 -- "Tag known? 31, place the chunk's offset."
-abbrev pub stopKnown : Position → Stop → Answer Unit
-stopKnown p ranOut = accepted tt
-stopKnown p (trailer n) = accepted tt
-stopKnown p unknownTag = refused (numbered 31 (p .cursor))
+abbrev pub stopKnown : ℕ → Stop → Answer Unit
+stopKnown at ranOut = accepted tt
+stopKnown at (trailer n) = accepted tt
+stopKnown at unknownTag = refused (numbered 31 at)
 
-unfoldable pub tagsKnown : Position → Walk → Answer Unit
-tagsKnown p (stop s) = stopKnown p s
-tagsKnown p (chunk kind payload missing rest) =
-    cond (recorded kind payload missing) (tagsKnown (past p kind payload missing) rest) (accepted tt)
+unfoldable pub tagsKnown : ℕ → Walk → Answer Unit
+tagsKnown at (stop s) = stopKnown at s
+tagsKnown at (chunk kind payload missing rest) =
+    cond (recorded kind payload missing) (tagsKnown (at + (8 + (length payload + missing))) rest) (accepted tt)
 
 -- "walks from 316"
 abbrev pub fileWalk : List ℕ → Walk
@@ -48,7 +48,7 @@ fileWalk file = walk file 316
 
 -- "File limit, 10, comes first."
 unfoldable pub indexOf : List ℕ → Answer (List ChunkIndexEntry)
-indexOf file = ask (withinLimit file) 10 0 (andThen (tagsKnown start (fileWalk file)) (λ _. accepted (records start (fileWalk file))))
+indexOf file = ask (withinLimit file) 10 0 (andThen (tagsKnown 316 (fileWalk file)) (λ _. accepted (records start (fileWalk file))))
 
 -- what the call answers, and the table as it leaves it
 pub record Built : Type 0 where
@@ -69,21 +69,21 @@ saidIndex (index.Ok n) = accepted n
 saidIndex (index.Err e) = refused (refusalOf e)
 
 -- of frames and blocks, how many
-abbrev pub counted : Kind → Summary → Summary
+abbrev pub counted : Kind → ChunkCounts → ChunkCounts
 counted frame s = record { frames = s .frames + 1; blocks = s .blocks }
 counted sound s = record { frames = s .frames; blocks = s .blocks + 1 }
 
 -- "frames and blocks as counts of the records its index walk makes", on top of s
-unfoldable pub countsFrom : Summary → Walk → Summary
+unfoldable pub countsFrom : ChunkCounts → Walk → ChunkCounts
 countsFrom s (stop e) = s
 countsFrom s (chunk kind payload missing rest) = cond (recorded kind payload missing) (countsFrom (counted kind s) rest) s
 
 -- 01's summary: "10, then 31, as there"
-unfoldable pub summaryOf : List ℕ → Answer Summary
+unfoldable pub summaryOf : List ℕ → Answer ChunkCounts
 summaryOf file =
     ask (withinLimit file) 10 0
-    (andThen (tagsKnown start (fileWalk file)) (λ _. accepted (countsFrom (record { frames = 0; blocks = 0 }) (fileWalk file))))
+    (andThen (tagsKnown 316 (fileWalk file)) (λ _. accepted (countsFrom (record { frames = 0; blocks = 0 }) (fileWalk file))))
 
-abbrev pub saidSummary : SummaryResult → Answer Summary
+abbrev pub saidSummary : SummaryResult → Answer ChunkCounts
 saidSummary (summary.Ok s) = accepted s
 saidSummary (summary.Err e) = refused (refusalOf e)

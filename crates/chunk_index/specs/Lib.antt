@@ -1,3 +1,4 @@
 pub mod Walk
 pub mod Entry
 pub mod Index
+pub mod Steps
