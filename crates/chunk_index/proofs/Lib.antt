@@ -4,3 +4,4 @@ pub mod Entries
 pub mod Counting
 pub mod Writing
 pub mod Building
+pub mod Chunked

@@ -2,3 +2,4 @@ pub mod Walk
 pub mod Entry
 pub mod Index
 pub mod Steps
+pub mod Chunks

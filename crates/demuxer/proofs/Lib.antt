@@ -2,3 +2,4 @@ pub mod Heads
 pub mod Ranges
 pub mod Bodies
 pub mod Steps
+pub mod Suffixes
