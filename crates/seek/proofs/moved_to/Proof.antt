@@ -1,0 +1,17 @@
+use borrow.Author.Needs.{needs}
+use Rattle.seek.proofs.moved_to.Statement.{statement}
+use Rattle.seek.proofs.moved_to.Tie as tie
+use Rattle.seek.proofs.moved_to.Reads as reads
+use Rattle.seek.proofs.moved_to.Lts as lts
+use Rattle.seek.proofs.stamp_of.Reads as stamp-of-reads
+
+-- src/lib.rt:193:32
+stamp-of-requires : tie.Need-stamp-of-requires
+stamp-of-requires c κs = search needs
+
+-- src/lib.rt:182:1
+returns : tie.Need-returns
+returns c = rw (c .stamp-of .ensures)
+
+pub moved-to-spec : {M : Type 1} → statement M
+moved-to-spec = tie.close (tie.spec stamp-of-requires returns)
