@@ -2,18 +2,18 @@
 use mathlib.Core.Path.{_≡_, refl, sym, ap, _∙_}
 use mathlib.Core.Bool.{Bool, true, false, _&&_, _||_}
 use mathlib.Core.List.{List, [], _∷_}
-use mathlib.Core.Option.{Option, none, some}
-use Prim.Native.Nat.{ℕ, zero, suc, _+_, _-_, _*_, _/_, _^_, _≤_, _<_}
+use mathlib.Core.Option.{some}
+use Prim.Native.Nat.{ℕ, zero, suc, _+_, _-_, _*_, _/_, _≤_, _<_}
 use native.Mathlib.Omega.{arith}
 use lib.Dec.{eqb}
 use lib.IntN.{ℤ, pos, negsuc}
-use lib.ListN.{length, getD}
+use lib.ListN.{length}
 use lib.Signed.{leZ}
 use borrow.Author.Tests.{le-leb, lt-ltb, le-ltb}
 use Rattle.fields.specs.Le.{Bytes}
 use Rattle.fields.proofs.Laws.{le-lt}
 use Rattle.chunk.specs.Chunk.{videoTag, audioTag}
-use Rattle.error.specs.Answer.{Answer, refused, numbered}
+use Rattle.error.specs.Answer.{refused, numbered}
 use Rattle.demuxer.specs.Position.{countLimit}
 use Rattle.demuxer.specs.declared.position.Position.{Position}
 use Rattle.chunk_index.specs.Entry.{entryAt, entriesFrom, entriesOf, Small}

@@ -1,11 +1,11 @@
 -- A seek, by what its questions and its search said. Assumes nothing.
-use mathlib.Core.Path.{_≡_, refl, sym, ap, _∙_}
+use mathlib.Core.Path.{_≡_, sym, ap, _∙_}
 use mathlib.Core.Bool.{true, false}
 use mathlib.Core.List.{List}
 use mathlib.Core.Option.{Option}
 use Prim.Native.Nat.{ℕ}
 use lib.IntN.{ℤ, pos}
-use Rattle.error.specs.Answer.{Answer, accepted, refused}
+use Rattle.error.specs.Answer.{refused}
 use Rattle.error.specs.Refusal.{refusalOf, said}
 use Rattle.error.specs.declared.AmvError.{AmvError}
 use Rattle.error.specs.declared.AmvResult.{AmvResult}
@@ -14,7 +14,7 @@ use Rattle.chunk_index.specs.Entry.{entriesOf}
 use Rattle.chunk_index.specs.declared.entry.ChunkIndexEntry.{ChunkIndexEntry}
 use Rattle.demuxer.specs.declared.position.Position.{Position}
 use Rattle.demuxer.specs.declared.walker.Walker.{Walker}
-use Rattle.seek.specs.Seek.{Seeking, seekQuestions, least, find, foundOf, pastLast, movedTo, landed, soughtFrom, seekOf}
+use Rattle.seek.specs.Seek.{seekQuestions, least, find, foundOf, pastLast, movedTo, landed, seekOf}
 use Rattle.seek.specs.declared.Found.{Found}
 use Rattle.seek.specs.declared.Found.the-variants.{At, Nowhere}
 use Rattle.seek.proofs.Records.{find-least}

@@ -53,8 +53,7 @@ fn good_entries(records: &[u8]) -> AmvResult
     let mut left = records.len();
     while ChunkIndexEntry::LEN <= left {
         left -= ChunkIndexEntry::LEN;
-        let e = ChunkIndexEntry::read(records, at);
-        if !good_entry(e) {
+        if !good_entry(ChunkIndexEntry::read(records, at)) {
             return AmvResult::Err(AmvError::BadRecord(at as u64));
         }
         at += ChunkIndexEntry::LEN;

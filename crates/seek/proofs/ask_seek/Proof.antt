@@ -1,4 +1,4 @@
-use mathlib.Core.Path.{_≡_, sym, ap, _∙_}
+use mathlib.Core.Path.{sym, ap, _∙_}
 use borrow.Author.Tests.{eq-eqb, ne-eqb, le-leb, lt-leb, not-true, not-false}
 use Rattle.error.specs.Refusal.{said}
 use Rattle.seek.specs.Seek.{seekQuestions}
@@ -10,33 +10,26 @@ use Rattle.seek.proofs.ask_seek.Lts as lts
 use Rattle.demuxer.proofs.position.Position.in_range.Reads as in-range-reads
 use Rattle.seek.proofs.good_entries.Reads as good-entries-reads
 
--- src/lib.rt:70:9
 returns : tie.Need-returns
 unfolding seekQuestions
 returns c = rw (ne-eqb _ _ (c .if1 .taken))
 
--- src/lib.rt:73:9
 returns-2 : tie.Need-returns-2
 unfolding seekQuestions
 returns-2 c = rw (eq-eqb _ _ (c .before .if1 .left), lt-leb _ _ (c .if2 .taken))
 
--- src/lib.rt:75:11
 good-entries-requires : tie.Need-good-entries-requires
 good-entries-requires c κs = search needs
 
--- src/lib.rt:76:24
 enum-known-e : tie.Need-enum-known-e
 enum-known-e c = search needs
 
--- src/lib.rt:78:17
 enum-told : tie.Need-enum-told
 enum-told c = search needs
 
--- src/lib.rt:79:17
 in-range-requires : tie.Need-in-range-requires
 in-range-requires c κs = search needs
 
--- src/lib.rt:80:17
 returns-3 : tie.Need-returns-3
 unfolding seekQuestions
 returns-3 c = let g = c .before .before .before .before .before in
@@ -47,7 +40,6 @@ returns-3 c = let g = c .before .before .before .before .before in
       sym (c .before .in-range .ensures) ∙ not-true _ (c .if3 .taken),
     )
 
--- src/lib.rt:66:1
 returns-4 : tie.Need-returns-4
 unfolding seekQuestions
 returns-4 c = let g = c .before .before .before in
@@ -57,7 +49,6 @@ returns-4 c = let g = c .before .before .before in
       sym (g .good-entries .ensures) ∙ ap said (c .before .e .given .1),
     )
 
--- src/lib.rt:66:1
 returns-5 : tie.Need-returns-5
 unfolding seekQuestions
 returns-5 c = let g = c .before .before .before .before .before in

@@ -5,19 +5,15 @@ use Rattle.seek.proofs.beyond_entry.Reads as reads
 use Rattle.seek.proofs.beyond_entry.Lts as lts
 use Rattle.seek.proofs.counted.Reads as counted-reads
 
--- src/lib.rt:163:17
 add-t4 : tie.Need-add-t4
 add-t4 c = search needs
 
--- src/lib.rt:164:28
 counted-requires : tie.Need-counted-requires
 counted-requires c κs = search needs
 
--- src/lib.rt:166:28
 counted-requires-2 : tie.Need-counted-requires-2
 counted-requires-2 c κs = search needs
 
--- src/lib.rt:156:1
 returns : tie.Need-returns
 returns c = rw (c .counted2 .ensures, c .before .counted .ensures)
 

@@ -5,15 +5,12 @@ use Rattle.seek.proofs.counted.Tie as tie
 use Rattle.seek.proofs.counted.Reads as reads
 use Rattle.seek.proofs.counted.Lts as lts
 
--- src/lib.rt:151:16
 add-result : tie.Need-add-result
 add-result c = search needs
 
--- src/lib.rt:151:9
 returns : tie.Need-returns
 returns c = rw (eq-eqb _ _ (c .if1 .taken))
 
--- src/lib.rt:146:1
 returns-2 : tie.Need-returns-2
 returns-2 c = rw (ne-eqb _ _ (c .if1 .left))
 

@@ -1,5 +1,5 @@
-use mathlib.Core.Path.{_≡_, refl, sym, ap, _∙_}
-use Prim.Native.Nat.{ℕ, _+_, _-_, _/_}
+use mathlib.Core.Path.{_≡_, refl, sym, _∙_}
+use Prim.Native.Nat.{_+_, _/_}
 use native.Mathlib.Omega.{arith}
 use borrow.Author.Needs.{needs}
 use lib.IntN.{pos}
@@ -20,19 +20,15 @@ Inv-loop records stream request at₀ left₀ at left = (at + left ≡ length re
 abbrev μ-loop : tie.MeasureT-loop
 μ-loop records stream request at₀ left₀ at left = left
 
--- src/lib.rt:133:5
 loop-holds : tie.Need-loop-holds Inv-loop μ-loop
 loop-holds c = (omega arith, refl)
 
--- src/lib.rt:135:13
 read-requires : tie.Need-read-requires Inv-loop μ-loop
 read-requires c κs = omega arith
 
--- src/lib.rt:136:12
 reaches-entry-requires : tie.Need-reaches-entry-requires Inv-loop μ-loop
 reaches-entry-requires c κs = search needs
 
--- src/lib.rt:138:13
 returns : tie.Need-returns Inv-loop μ-loop
 returns c =
     let l = c .before .before .before .before .before .loop in
@@ -40,15 +36,12 @@ returns c =
     let g = sym (c .before .before .reaches-entry .ensures) ∙ c .before .if1 .taken in
     sym (find-here (a .records .now) (l .at) (l .left) (omega arith) (c .before .before .before .read .ensures) (a .stream) (pos (a .request)) g) ∙ l .inv .1
 
--- src/lib.rt:140:9
 add-at : tie.Need-add-at Inv-loop μ-loop
 add-at c = omega arith
 
--- src/lib.rt:133:5
 loop-less : tie.Need-loop-less Inv-loop μ-loop
 loop-less c = omega arith
 
--- src/lib.rt:133:5
 loop-again : tie.Need-loop-again Inv-loop μ-loop
 loop-again c =
     let l = c .before .before .before .before .loop in
@@ -56,7 +49,6 @@ loop-again c =
     let g = sym (c .before .reaches-entry .ensures) ∙ c .if1 .left in
     (omega arith, sym (find-on (a .records .now) (l .at) (l .left) (omega arith) (c .before .before .read .ensures) (a .stream) (pos (a .request)) g) ∙ l .inv .1)
 
--- src/lib.rt:128:1
 returns-2 : tie.Need-returns-2 Inv-loop μ-loop
 unfolding find
 returns-2 c = let l = c .before .loop in

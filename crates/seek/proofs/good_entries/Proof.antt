@@ -1,5 +1,5 @@
-use mathlib.Core.Path.{_≡_, refl, sym, ap, _∙_}
-use Prim.Native.Nat.{ℕ, _+_, _-_, _/_}
+use mathlib.Core.Path.{_≡_, refl, sym, _∙_}
+use Prim.Native.Nat.{_+_, _/_}
 use native.Mathlib.Omega.{arith}
 use borrow.Author.Needs.{needs}
 use borrow.Author.Tests.{not-true, not-false}
@@ -20,19 +20,15 @@ Inv-loop records at₀ left₀ at left = (at + left ≡ length records) × (good
 abbrev μ-loop : tie.MeasureT-loop
 μ-loop records at₀ left₀ at left = left
 
--- src/lib.rt:55:5
 loop-holds : tie.Need-loop-holds Inv-loop μ-loop
 loop-holds c = (omega arith, refl)
 
--- src/lib.rt:57:13
 read-requires : tie.Need-read-requires Inv-loop μ-loop
 read-requires c κs = omega arith
 
--- src/lib.rt:58:13
 good-entry-requires : tie.Need-good-entry-requires Inv-loop μ-loop
 good-entry-requires c κs = search needs
 
--- src/lib.rt:59:13
 returns : tie.Need-returns Inv-loop μ-loop
 returns c =
     let l = c .before .before .before .before .loop in
@@ -40,15 +36,12 @@ returns c =
     let g = sym (c .before .good-entry .ensures) ∙ not-true _ (c .if1 .taken) in
     sym (good-no t (l .at) (l .left) (omega arith) (c .before .before .read .ensures) g) ∙ l .inv .1
 
--- src/lib.rt:61:9
 add-at : tie.Need-add-at Inv-loop μ-loop
 add-at c = omega arith
 
--- src/lib.rt:55:5
 loop-less : tie.Need-loop-less Inv-loop μ-loop
 loop-less c = omega arith
 
--- src/lib.rt:55:5
 loop-again : tie.Need-loop-again Inv-loop μ-loop
 loop-again c =
     let l = c .before .before .before .before .loop in
@@ -56,7 +49,6 @@ loop-again c =
     let g = sym (c .before .good-entry .ensures) ∙ not-false _ (c .if1 .left) in
     (omega arith, sym (good-on t (l .at) (l .left) (omega arith) (c .before .before .read .ensures) g) ∙ l .inv .1)
 
--- src/lib.rt:50:1
 returns-2 : tie.Need-returns-2 Inv-loop μ-loop
 unfolding goodEntries
 returns-2 c = let l = c .before .loop in

@@ -1,4 +1,4 @@
-use mathlib.Core.Path.{_≡_, sym, _∙_}
+use mathlib.Core.Path.{sym}
 use borrow.Author.Tests.{eq-eqb, ne-eqb}
 use Rattle.seek.proofs.Records.{good-many, good-few}
 use Rattle.seek.proofs.good_entry.Statement.{statement}
@@ -6,15 +6,12 @@ use Rattle.seek.proofs.good_entry.Tie as tie
 use Rattle.seek.proofs.good_entry.Reads as reads
 use Rattle.seek.proofs.good_entry.Lts as lts
 
--- src/lib.rt:41:9
 returns : tie.Need-returns
 returns c = sym (good-many (c .before .before .before .args .e) (c .if1 .taken))
 
--- src/lib.rt:44:9
 returns-2 : tie.Need-returns-2
 returns-2 c = rw (good-few (c .before .before .before .before .before .args .e) (c .before .before .if1 .left), eq-eqb _ _ (c .if2 .taken))
 
--- src/lib.rt:36:1
 returns-3 : tie.Need-returns-3
 returns-3 c = rw (good-few (c .before .before .before .before .before .before .args .e) (c .before .before .before .if1 .left), ne-eqb _ _ (c .before .if2 .left))
 

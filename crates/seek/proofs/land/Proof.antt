@@ -1,4 +1,4 @@
-use mathlib.Core.Path.{_≡_, sym, _∙_}
+use mathlib.Core.Path.{sym, _∙_}
 use Rattle.chunk_index.specs.Entry.{entriesOf}
 use Rattle.seek.proofs.Seeks.{land-at, land-nowhere}
 use borrow.Author.Needs.{needs}
@@ -9,33 +9,26 @@ use Rattle.seek.proofs.land.Lts as lts
 use Rattle.seek.proofs.beyond_last.Reads as beyond-last-reads
 use Rattle.seek.proofs.moved_to.Reads as moved-to-reads
 
--- src/lib.rt:202:19
 enum-known-found : tie.Need-enum-known-found
 enum-known-found c = search needs
 
--- src/lib.rt:202:32
 moved-to-requires : tie.Need-moved-to-requires
 moved-to-requires c κs = search needs
 
--- src/lib.rt:204:17
 enum-told : tie.Need-enum-told
 enum-told c = search needs
 
--- src/lib.rt:205:38
 beyond-last-requires : tie.Need-beyond-last-requires
 beyond-last-requires c κs = search needs
 
--- src/lib.rt:205:13
 moved-to-requires-2 : tie.Need-moved-to-requires-2
 moved-to-requires-2 c κs = search needs
 
--- src/lib.rt:198:1
 returns : tie.Need-returns
 returns c =
     let a = c .before .before .before .before .before .args in
     c .moved-to .ensures ∙ sym (land-at (entriesOf (a .records .now)) (a .walker) (a .stream) (c .before .before .found .given .1))
 
--- src/lib.rt:198:1
 returns-2 : tie.Need-returns-2
 returns-2 c =
     let a = c .before .before .before .before .before .before .args in

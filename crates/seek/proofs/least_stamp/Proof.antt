@@ -1,4 +1,4 @@
-use mathlib.Core.Path.{_≡_, refl, sym, ap, _∙_}
+use mathlib.Core.Path.{_≡_, refl}
 use mathlib.Core.Bool.{true, false}
 use Prim.Native.Nat.{ℕ}
 use native.Mathlib.Omega.{arith}
@@ -33,15 +33,12 @@ same (negsuc n) e = let z : _≡_ {A = ℕ} 0 1 = cc in absurd (omega arith)
 back : (c : tie.Start) → toZ w64 (ofZ w64 (c .args .request)) ≡ c .args .request
 back c = toZ-ofZ w64 (c .args .request) (c .fits .request)
 
--- src/lib.rt:92:9
 returns : tie.Need-returns
 returns c = below (c .before .args .request) (rw (back (c .before)) at (c .if1 .taken))
 
--- src/lib.rt:94:5
 cast-result : tie.Need-cast-result
 cast-result c = rw (back (c .before)) (above (c .before .args .request) (c .before .fits .request) (rw (back (c .before)) at (c .if1 .left)))
 
--- src/lib.rt:88:1
 returns-2 : tie.Need-returns-2
 returns-2 c = rw (back (c .before)) (same (c .before .args .request) (rw (back (c .before)) at (c .if1 .left)))
 

@@ -5,11 +5,9 @@ use Rattle.seek.proofs.moved_to.Reads as reads
 use Rattle.seek.proofs.moved_to.Lts as lts
 use Rattle.seek.proofs.stamp_of.Reads as stamp-of-reads
 
--- src/lib.rt:193:32
 stamp-of-requires : tie.Need-stamp-of-requires
 stamp-of-requires c κs = search needs
 
--- src/lib.rt:182:1
 returns : tie.Need-returns
 returns c = rw (c .stamp-of .ensures)
 

@@ -1,4 +1,4 @@
-use mathlib.Core.Path.{_≡_, sym}
+use mathlib.Core.Path.{sym}
 use borrow.Author.Tests.{eq-eqb, ne-eqb}
 use borrow.Author.Needs.{needs}
 use Rattle.seek.proofs.reaches_entry.Statement.{statement}
@@ -8,19 +8,15 @@ use Rattle.seek.proofs.reaches_entry.Lts as lts
 use Rattle.seek.proofs.stamp_of.Reads as stamp-of-reads
 use Rattle.seek.proofs.stream_tag.Reads as stream-tag-reads
 
--- src/lib.rt:118:9
 stream-tag-requires : tie.Need-stream-tag-requires
 stream-tag-requires c κs = search needs
 
--- src/lib.rt:120:9
 returns : tie.Need-returns
 returns c = rw (sym (c .before .before .stream-tag .ensures), ne-eqb _ _ (c .if1 .taken))
 
--- src/lib.rt:123:9
 stamp-of-requires : tie.Need-stamp-of-requires
 stamp-of-requires c κs = search needs
 
--- src/lib.rt:115:1
 returns-2 : tie.Need-returns-2
 returns-2 c = rw (sym (c .before .before .before .before .stream-tag .ensures), eq-eqb _ _ (c .before .before .if1 .left), sym (c .stamp-of .ensures))
 

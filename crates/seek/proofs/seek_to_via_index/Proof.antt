@@ -1,6 +1,6 @@
 use mathlib.Core.Path.{_≡_, sym, ap, _∙_}
 use Prim.Native.Nat.{ℕ}
-use lib.IntN.{ℤ, pos}
+use lib.IntN.{pos}
 use mir.Syntax.{w64}
 use mir.ValLaws.{toZ-ofZ}
 use Rattle.chunk_index.specs.Entry.{entriesOf}
@@ -16,37 +16,29 @@ use Rattle.seek.proofs.find_entry.Reads as find-entry-reads
 use Rattle.seek.proofs.land.Reads as land-reads
 use Rattle.seek.proofs.least_stamp.Reads as least-stamp-reads
 
--- src/lib.rt:213:11
 ask-seek-requires : tie.Need-ask-seek-requires
 ask-seek-requires c κs = search needs
 
--- src/lib.rt:214:24
 enum-known-e : tie.Need-enum-known-e
 enum-known-e c = search needs
 
--- src/lib.rt:219:53
 enum-told : tie.Need-enum-told
 enum-told c = search needs
 
--- src/lib.rt:219:53
 least-stamp-requires : tie.Need-least-stamp-requires
 least-stamp-requires c κs = search needs
 
--- src/lib.rt:219:17
 find-entry-requires : tie.Need-find-entry-requires
 find-entry-requires c κs = search needs
 
--- src/lib.rt:220:13
 land-requires : tie.Need-land-requires
 land-requires c κs = search needs
 
--- src/lib.rt:210:1
 returns : tie.Need-returns
 returns c =
     let a = c .before .before .before .before .before .args in
     sym (seek-refused (a .records .now) (a .walker) (a .stream) (a .request) (c .before .before .before .ask-seek .ensures) (c .before .e .given .1))
 
--- src/lib.rt:210:1
 returns-2 : tie.Need-returns-2
 returns-2 c =
     let s = c .before .before .before .before .before .before .before in

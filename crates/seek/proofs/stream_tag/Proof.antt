@@ -4,11 +4,9 @@ use Rattle.seek.proofs.stream_tag.Tie as tie
 use Rattle.seek.proofs.stream_tag.Reads as reads
 use Rattle.seek.proofs.stream_tag.Lts as lts
 
--- src/lib.rt:101:9
 returns : tie.Need-returns
 returns c = rw (eq-eqb _ _ (c .if1 .taken))
 
--- src/lib.rt:97:1
 returns-2 : tie.Need-returns-2
 returns-2 c = rw (ne-eqb _ _ (c .if1 .left))
 
