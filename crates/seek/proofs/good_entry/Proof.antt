@@ -1,0 +1,19 @@
+use mathlib.Core.Path.{sym}
+use borrow.Author.Tests.{eq-eqb, ne-eqb}
+use Rattle.seek.proofs.Records.{good-many, good-few}
+use Rattle.seek.proofs.good_entry.Statement.{statement}
+use Rattle.seek.proofs.good_entry.Tie as tie
+use Rattle.seek.proofs.good_entry.Reads as reads
+use Rattle.seek.proofs.good_entry.Lts as lts
+
+returns : tie.Need-returns
+returns c = sym (good-many (c .before .before .before .args .e) (c .if1 .taken))
+
+returns-2 : tie.Need-returns-2
+returns-2 c = rw (good-few (c .before .before .before .before .before .args .e) (c .before .before .if1 .left), eq-eqb _ _ (c .if2 .taken))
+
+returns-3 : tie.Need-returns-3
+returns-3 c = rw (good-few (c .before .before .before .before .before .before .args .e) (c .before .before .before .if1 .left), ne-eqb _ _ (c .before .if2 .left))
+
+pub good-entry-spec : {M : Type 1} → statement M
+good-entry-spec = tie.close (tie.spec returns returns-2 returns-3)

@@ -1,0 +1,46 @@
+use mathlib.Core.Path.{_≡_, refl}
+use mathlib.Core.Bool.{true, false}
+use Prim.Native.Nat.{ℕ}
+use native.Mathlib.Omega.{arith}
+use lib.Dec.{T}
+use lib.IntN.{ℤ, pos, negsuc, natAbs}
+use lib.Signed.{ltZ, nonNeg}
+use borrow.Author.Tests.{ltb-true}
+use mir.Syntax.{w64}
+use mir.Val.{Fits, SFits, toZ, ofZ}
+use mir.ValLaws.{toZ-ofZ}
+use Rattle.seek.specs.Seek.{least}
+use Rattle.seek.proofs.least_stamp.Statement.{statement}
+use Rattle.seek.proofs.least_stamp.Tie as tie
+use Rattle.seek.proofs.least_stamp.Reads as reads
+use Rattle.seek.proofs.least_stamp.Lts as lts
+
+below : (z : ℤ) → ltZ z (pos 0) ≡ true → 0 ≡ least z
+unfolding least
+below (pos n) e = let h = ltb-true n 0 e in omega arith
+below (negsuc n) e = refl
+
+above : (z : ℤ) → SFits w64 z → ltZ z (pos 0) ≡ false → T (nonNeg z) × Fits w64 (natAbs z)
+above (pos n) f e = (tt, omega (arith, f .sfits))
+above (negsuc n) f e = let z : _≡_ {A = ℕ} 0 1 = cc in (absurd (omega arith), absurd (omega arith))
+
+same : (z : ℤ) → ltZ z (pos 0) ≡ false → natAbs z ≡ least z
+unfolding least
+same (pos n) e = refl
+same (negsuc n) e = let z : _≡_ {A = ℕ} 0 1 = cc in absurd (omega arith)
+
+-- a request is what its bits say
+back : (c : tie.Start) → toZ w64 (ofZ w64 (c .args .request)) ≡ c .args .request
+back c = toZ-ofZ w64 (c .args .request) (c .fits .request)
+
+returns : tie.Need-returns
+returns c = below (c .before .args .request) (rw (back (c .before)) at (c .if1 .taken))
+
+cast-result : tie.Need-cast-result
+cast-result c = rw (back (c .before)) (above (c .before .args .request) (c .before .fits .request) (rw (back (c .before)) at (c .if1 .left)))
+
+returns-2 : tie.Need-returns-2
+returns-2 c = rw (back (c .before)) (same (c .before .args .request) (rw (back (c .before)) at (c .if1 .left)))
+
+pub least-stamp-spec : {M : Type 1} → statement M
+least-stamp-spec = tie.close (tie.spec returns cast-result returns-2)

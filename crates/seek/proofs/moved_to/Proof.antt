@@ -1,0 +1,15 @@
+use borrow.Author.Needs.{needs}
+use Rattle.seek.proofs.moved_to.Statement.{statement}
+use Rattle.seek.proofs.moved_to.Tie as tie
+use Rattle.seek.proofs.moved_to.Reads as reads
+use Rattle.seek.proofs.moved_to.Lts as lts
+use Rattle.seek.proofs.stamp_of.Reads as stamp-of-reads
+
+stamp-of-requires : tie.Need-stamp-of-requires
+stamp-of-requires c κs = search needs
+
+returns : tie.Need-returns
+returns c = rw (c .stamp-of .ensures)
+
+pub moved-to-spec : {M : Type 1} → statement M
+moved-to-spec = tie.close (tie.spec stamp-of-requires returns)

@@ -1,0 +1,24 @@
+use mathlib.Core.Path.{sym}
+use borrow.Author.Tests.{eq-eqb, ne-eqb}
+use borrow.Author.Needs.{needs}
+use Rattle.seek.proofs.reaches_entry.Statement.{statement}
+use Rattle.seek.proofs.reaches_entry.Tie as tie
+use Rattle.seek.proofs.reaches_entry.Reads as reads
+use Rattle.seek.proofs.reaches_entry.Lts as lts
+use Rattle.seek.proofs.stamp_of.Reads as stamp-of-reads
+use Rattle.seek.proofs.stream_tag.Reads as stream-tag-reads
+
+stream-tag-requires : tie.Need-stream-tag-requires
+stream-tag-requires c κs = search needs
+
+returns : tie.Need-returns
+returns c = rw (sym (c .before .before .stream-tag .ensures), ne-eqb _ _ (c .if1 .taken))
+
+stamp-of-requires : tie.Need-stamp-of-requires
+stamp-of-requires c κs = search needs
+
+returns-2 : tie.Need-returns-2
+returns-2 c = rw (sym (c .before .before .before .before .stream-tag .ensures), eq-eqb _ _ (c .before .before .if1 .left), sym (c .stamp-of .ensures))
+
+pub reaches-entry-spec : {M : Type 1} → statement M
+reaches-entry-spec = tie.close (tie.spec stream-tag-requires returns stamp-of-requires returns-2)

@@ -1,0 +1,221 @@
+// The indexed seek.
+use chunk_index::entry::ChunkIndexEntry;
+use demuxer::position::BlockCount;
+use demuxer::position::FrameStamp;
+use demuxer::position::Position;
+use demuxer::walker::Walker;
+use error::AmvError;
+use error::AmvResult;
+ghost use mathlib.Core.Path.{_≡_};
+ghost use mathlib.Core.Bool.{cond};
+ghost use Prim.Native.Nat.{_+_, _<_};
+ghost use lib.Dec.{eqb};
+ghost use lib.IntN.{pos};
+ghost use Rattle.error.specs.Refusal.{said};
+ghost use Rattle.chunk_index.specs.Entry.{Small, entriesOf};
+ghost use Rattle.seek.specs.Seek.{goodEntry, goodEntries, seekQuestions, streamTag, stampOf, least, reaches, find, foundOf, beyond, pastLast, movedTo, landed, saidSought, seekOf};
+
+pub enum SeekResult {
+    Ok(u64),
+    Err(AmvError),
+}
+
+// A seek's answer, the stamp, and the walker that the next call gets.
+pub struct Sought {
+    pub result: SeekResult,
+    pub walker: Walker,
+}
+
+// The position of a record, if one was found.
+enum Found {
+    At(Position),
+    Nowhere,
+}
+
+fn good_entry(e: ChunkIndexEntry) -> bool
+    ensures { λ r. ⌜ r ≡ goodEntry e ⌝ }
+{
+    let position = e.position;
+    if demuxer::position::COUNT_LIMIT <= position.samples.0 {
+        return false;
+    }
+    if e.tag == chunk::VIDEO_CHUNK_TAG {
+        return true;
+    }
+    e.tag == chunk::AUDIO_CHUNK_TAG
+}
+
+// The first record that is not good is refused, at its start.
+fn good_entries(records: &[u8]) -> AmvResult
+    ensures { λ r. ⌜ said r ≡ goodEntries 0 (entriesOf (now (records .entry))) ⌝ }
+{
+    let mut at: usize = 0;
+    let mut left = records.len();
+    while ChunkIndexEntry::LEN <= left {
+        left -= ChunkIndexEntry::LEN;
+        if !good_entry(ChunkIndexEntry::read(records, at)) {
+            return AmvResult::Err(AmvError::BadRecord(at as u64));
+        }
+        at += ChunkIndexEntry::LEN;
+    }
+    AmvResult::Ok
+}
+
+fn ask_seek(walker: Walker, records: &[u8], stream: u32) -> AmvResult
+    ensures { λ r. ⌜ said r ≡ seekQuestions (now (records .entry)) walker stream ⌝ }
+{
+    if records.len() % ChunkIndexEntry::LEN != 0 {
+        return AmvResult::Err(AmvError::TableRagged);
+    }
+    if 1 < stream {
+        return AmvResult::Err(AmvError::NoSuchStream);
+    }
+    match good_entries(records) {
+        AmvResult::Err(e) => AmvResult::Err(e),
+        AmvResult::Ok => {
+            let position = walker.position;
+            if !position.in_range() {
+                return AmvResult::Err(AmvError::StateOutOfRange);
+            }
+            AmvResult::Ok
+        }
+    }
+}
+
+// The least stamp that reaches a signed request.
+fn least_stamp(request: i64) -> u64
+    ensures { λ r. ⌜ r ≡ least request ⌝ }
+{
+    if request < 0 {
+        return 0;
+    }
+    request as u64
+}
+
+fn stream_tag(stream: u32) -> u32
+    ensures { λ r. ⌜ r ≡ streamTag stream ⌝ }
+{
+    if stream == 0 {
+        return chunk::VIDEO_CHUNK_TAG;
+    }
+    chunk::AUDIO_CHUNK_TAG
+}
+
+fn stamp_of(stream: u32, position: Position) -> u64
+    ensures { λ r. ⌜ r ≡ stampOf stream position ⌝ }
+{
+    if stream == 0 {
+        return position.frames.0;
+    }
+    position.samples.0
+}
+
+fn reaches_entry(stream: u32, request: u64, e: ChunkIndexEntry) -> bool
+    ensures { λ r. ⌜ r ≡ reaches stream (pos request) e ⌝ }
+{
+    let tag = stream_tag(stream);
+    if e.tag != tag {
+        return false;
+    }
+    let position = e.position;
+    let stamp = stamp_of(stream, position);
+    request <= stamp
+}
+
+// The first record of a stream that reaches a request.
+fn find_entry(records: &[u8], stream: u32, request: u64) -> Found
+    ensures { λ r. ⌜ foundOf r ≡ find stream (pos request) (entriesOf (now (records .entry))) ⌝ }
+{
+    let mut at: usize = 0;
+    let mut left = records.len();
+    while ChunkIndexEntry::LEN <= left {
+        left -= ChunkIndexEntry::LEN;
+        let e = ChunkIndexEntry::read(records, at);
+        if reaches_entry(stream, request, e) {
+            let position = e.position;
+            return Found::At(position);
+        }
+        at += ChunkIndexEntry::LEN;
+    }
+    Found::Nowhere
+}
+
+// One more where a record's tag is the one that is counted.
+fn counted(count: u64, tag: u32, wanted: u32) -> u64
+    requires { ⌜ count < 4294967296 ⌝ }
+    ensures { λ r. ⌜ r ≡ cond (eqb tag wanted) (count + 1) count ⌝ }
+{
+    if tag == wanted {
+        return count + 1;
+    }
+    count
+}
+
+fn beyond_entry(e: ChunkIndexEntry) -> Position
+    requires { ⌜ Small (e .position) ⌝ }
+    ensures { λ r. ⌜ r ≡ beyond e ⌝ }
+{
+    let position = e.position;
+    let samples = position.samples;
+    Position {
+        cursor: position.cursor + 8,
+        frames: FrameStamp(counted(position.frames.0, e.tag, chunk::VIDEO_CHUNK_TAG)),
+        samples,
+        blocks: BlockCount(counted(position.blocks.0, e.tag, chunk::AUDIO_CHUNK_TAG)),
+    }
+}
+
+// Past the last record, or the position itself where there is none.
+fn beyond_last(position: Position, records: &[u8]) -> Position
+    ensures { λ r. ⌜ r ≡ pastLast position (entriesOf (now (records .entry))) ⌝ }
+{
+    let count = records.len() / ChunkIndexEntry::LEN;
+    if count == 0 {
+        return position;
+    }
+    beyond_entry(ChunkIndexEntry::read(records, (count - 1) * ChunkIndexEntry::LEN))
+}
+
+// The whole position at once; cut and trailer stay.
+fn moved_to(walker: Walker, stream: u32, position: Position, end: bool) -> Sought
+    ensures { λ r. ⌜ saidSought r ≡ movedTo walker stream position end ⌝ }
+{
+    let trailer = walker.trailer;
+    let moved = Walker {
+        position,
+        end,
+        cut: walker.cut,
+        trailer,
+    };
+    Sought {
+        result: SeekResult::Ok(stamp_of(stream, position)),
+        walker: moved,
+    }
+}
+
+fn land(walker: Walker, records: &[u8], stream: u32, found: Found) -> Sought
+    ensures { λ r. ⌜ saidSought r ≡ landed (entriesOf (now (records .entry))) walker stream (foundOf found) ⌝ }
+{
+    match found {
+        Found::At(position) => moved_to(walker, stream, position, false),
+        Found::Nowhere => {
+            let position = walker.position;
+            moved_to(walker, stream, beyond_last(position, records), true)
+        }
+    }
+}
+
+pub fn seek_to_via_index(walker: Walker, records: &[u8], stream: u32, request: i64) -> Sought
+    ensures { λ r. ⌜ saidSought r ≡ seekOf (now (records .entry)) walker stream request ⌝ }
+{
+    match ask_seek(walker, records, stream) {
+        AmvResult::Err(e) => Sought {
+            result: SeekResult::Err(e),
+            walker,
+        },
+        AmvResult::Ok => {
+            let found = find_entry(records, stream, least_stamp(request));
+            land(walker, records, stream, found)
+        }
+    }
+}
