@@ -1,0 +1,4 @@
+pub mod Grammar
+pub mod Drain
+pub mod Machine
+pub mod Check
