@@ -8,7 +8,7 @@ ghost use Rattle.chunk.specs.Chunk.{kindOf};
 ghost use Rattle.chunk.specs.Interleave.{interleave, interleaveAt};
 
 // What a chunk at a position is asked.
-fn interleave_at(tag: u32, position: u64) -> AmvResult
+pub fn interleave_at(tag: u32, position: u64) -> AmvResult
     ensures { λ r. ⌜ said r ≡ interleaveAt (kindOf tag) position ⌝ }
 {
     let even = position % 2 == 0;

@@ -2,7 +2,7 @@
 use Rattle.error.specs.Answer.{Answer, accepted, refused, numbered}
 use Rattle.error.specs.declared.Refusal.{Refusal}
 use Rattle.error.specs.declared.AmvError.{AmvError}
-use Rattle.error.specs.declared.AmvError.the-variants.{FileTooLong, Cut, WrongTag, WrongSize, ZeroFps, WrongMicros, WrongFlag, NonzeroReserved, NonzeroByte, WrongFormat, WrongChannels, WrongAverage, WrongAlign, WrongBits, WrongCbSize, PreambleTooShort, NoSamples, WaveFormatTooShort, HeaderTooShort, ChunkHeaderTooShort, UnknownTag, StateOutOfRange, TableTooShort, TableRagged, NoSuchStream, BadRecord, AlreadyBegun, NotBegun, PayloadTooLong, PacketOfNoStream, NoRoom, AlreadyEnded, PreludeMissing, VideoAtOddPosition, AudioAtEvenPosition, OtherAtPosition, OddChunkCount}
+use Rattle.error.specs.declared.AmvError.the-variants.{FileTooLong, Cut, WrongTag, WrongSize, ZeroFps, WrongMicros, WrongFlag, NonzeroReserved, NonzeroByte, WrongFormat, WrongChannels, WrongAverage, WrongAlign, WrongBits, WrongCbSize, PreambleTooShort, NoSamples, WaveFormatTooShort, HeaderTooShort, ChunkHeaderTooShort, UnknownTag, StateOutOfRange, TableTooShort, TableRagged, NoSuchStream, BadRecord, AlreadyBegun, NotBegun, PayloadTooLong, PacketOfNoStream, NoRoom, AlreadyEnded, PreludeMissing, ChunkCut, AfterTrailer, VideoAtOddPosition, AudioAtEvenPosition, OtherAtPosition, OddChunkCount}
 use Rattle.error.specs.declared.AmvResult.{AmvResult}
 use Rattle.error.specs.declared.AmvResult.the-variants.{Ok, Err}
 
@@ -41,6 +41,8 @@ refusalOf (PacketOfNoStream written) = numbered 53 written
 refusalOf (NoRoom written) = numbered 54 written
 refusalOf (AlreadyEnded written) = numbered 55 written
 refusalOf (PreludeMissing written) = numbered 56 written
+refusalOf (ChunkCut place) = numbered 60 place
+refusalOf (AfterTrailer place) = numbered 61 place
 refusalOf (VideoAtOddPosition position) = numbered 62 position
 refusalOf (AudioAtEvenPosition position) = numbered 63 position
 refusalOf (OtherAtPosition position) = numbered 64 position

@@ -43,6 +43,8 @@ pub enum AmvError {
     NoRoom(u64),
     AlreadyEnded(u64),
     PreludeMissing(u64),
+    ChunkCut(u64),
+    AfterTrailer(u64),
     VideoAtOddPosition(u64),
     AudioAtEvenPosition(u64),
     OtherAtPosition(u64),
@@ -174,6 +176,8 @@ impl AmvError {
                 number: 56,
                 place: written,
             },
+            AmvError::ChunkCut(place) => Refusal { number: 60, place },
+            AmvError::AfterTrailer(place) => Refusal { number: 61, place },
             AmvError::VideoAtOddPosition(position) => Refusal {
                 number: 62,
                 place: position,

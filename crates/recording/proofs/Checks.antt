@@ -33,7 +33,8 @@ use Rattle.chunk_index.specs.Walk.{Kind, frame, sound, Walk, stop, chunk, ranOu
 use Rattle.chunk_index.specs.Chunks.{Chunk, chunkOf, chunkBytes, chunksBytes, trailerBytes, Lengths, walkOf}
 use Rattle.chunk_index.specs.Entry.{kindTag}
 use Rattle.chunk_index.proofs.Chunked.{chunks-walked}
-use Rattle.recording.specs.Check.{Totals, passes, tagsOf, checkStop, checkFrom, checkOf, chunkTags, totalsOf, CheckIsGrammar}
+use Rattle.recording.specs.Check.{passes, tagsOf, checkStop, checkFrom, checkOf, chunkTags, totalsOf, CheckIsGrammar}
+use Rattle.recording.specs.declared.check.Totals.{Totals}
 use Rattle.recording.specs.Drain.{frames, samples, blocks}
 use Rattle.recording.specs.Grammar.{Finished}
 

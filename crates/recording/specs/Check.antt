@@ -15,21 +15,18 @@ use Rattle.prelude.specs.Prelude.{strictOf}
 use Rattle.chunk_index.specs.Walk.{Kind, frame, sound, Stop, ranOut, trailer, unknownTag, Walk, stop, chunk, past, walk}
 use Rattle.chunk_index.specs.Chunks.{Chunk, chunkOf, chunksBytes}
 use Rattle.chunk_index.specs.Entry.{kindTag}
+use Rattle.error.specs.Refusal.{refusalOf}
+use Rattle.recording.specs.declared.check.Totals.{Totals}
+use Rattle.recording.specs.declared.check.CheckResult.{CheckResult}
+use Rattle.recording.specs.declared.check.CheckResult.the-variants.{Ok, Err}
 use Rattle.recording.specs.Grammar.{Finished}
 use Rattle.recording.specs.Drain.{frames, samples, blocks}
-
--- "It answers frames, blocks, samples, trailer offset, and paired"
-pub record Totals : Type 0 where
-  pub frames : ℕ
-  pub blocks : ℕ
-  pub samples : ℕ
-  pub trailer : ℕ
-  pub paired : Bool
 
 abbrev pub passes : Answer Unit → Bool
 passes (accepted u) = true
 passes (refused r) = false
 
+-- "It answers frames, blocks, samples, trailer offset, and paired": `Totals`.
 -- the tags of a walk's chunks
 unfoldable pub tagsOf : Walk → List ℕ
 tagsOf (stop s) = []
@@ -51,6 +48,10 @@ checkFrom p paired (chunk kind payload missing rest) = ask (eqb missing 0) 60 (p
 -- "10 to 24 as above; then per chunk"; paired "is yes exactly when the interleave check passes on its chunks"
 unfoldable pub checkOf : List ℕ → Answer Totals
 checkOf file = andThen (strictOf file) (λ _. checkFrom start (passes (interleave (tagsOf (walk file 316)))) (walk file 316))
+
+abbrev pub saidCheck : CheckResult → Answer Totals
+saidCheck (Ok t) = accepted t
+saidCheck (Err e) = refused (refusalOf e)
 
 -- the tags of chunks
 unfoldable pub chunkTags : List Chunk → List ℕ

@@ -2,3 +2,4 @@ pub mod Grammar
 pub mod Drain
 pub mod Machine
 pub mod Check
+pub mod CheckSteps

@@ -1,1 +1,2 @@
-// The finished recording: the claims about whole lists of calls stand in specs/, their proofs in proofs/.
+// The finished recording: its check, and the claims about whole lists of calls (stated in specs/, proved in proofs/).
+pub mod check;

@@ -1,0 +1,36 @@
+use borrow.Author.Needs.{needs}
+use Rattle.recording.proofs.check.check.Statement.{statement}
+use Rattle.recording.proofs.check.check.Tie as tie
+use Rattle.recording.proofs.check.check.Reads as reads
+use Rattle.recording.proofs.check.check.Lts as lts
+use Rattle.prelude.proofs.prelude.AmvPrelude.parse_strict.Reads as parse-strict-reads
+use Rattle.recording.proofs.check.check_chunks.Reads as check-chunks-reads
+
+-- src/check.rt:151:11
+parse-strict-requires : tie.Need-parse-strict-requires
+parse-strict-requires c κs = search needs
+
+-- src/check.rt:152:31
+enum-known-e : tie.Need-enum-known-e
+enum-known-e c = search needs
+
+-- src/check.rt:153:36
+enum-told : tie.Need-enum-told
+enum-told c = search needs
+
+-- src/check.rt:153:36
+check-chunks-requires : tie.Need-check-chunks-requires
+check-chunks-requires c κs = ?
+
+-- src/check.rt:148:1
+returns : tie.Need-returns
+returns c = ?
+
+-- src/check.rt:148:1
+returns-2 : tie.Need-returns-2
+returns-2 c = ?
+
+pub check-spec : {M : Type 1} → statement M
+check-spec =
+    tie.close
+    (tie.spec parse-strict-requires enum-known-e enum-told check-chunks-requires returns returns-2)

@@ -1,0 +1,15 @@
+use Rattle.recording.proofs.check.paired_all.Statement.{statement}
+use Rattle.recording.proofs.check.paired_all.Tie as tie
+use Rattle.recording.proofs.check.paired_all.Reads as reads
+use Rattle.recording.proofs.check.paired_all.Lts as lts
+
+-- src/check.rt:109:9
+returns : tie.Need-returns
+returns c = ?
+
+-- src/check.rt:105:1
+returns-2 : tie.Need-returns-2
+returns-2 c = ?
+
+pub paired-all-spec : {M : Type 1} → statement M
+paired-all-spec = tie.close (tie.spec returns returns-2)

@@ -1,0 +1,34 @@
+use borrow.Author.Needs.{needs}
+use Rattle.recording.proofs.check.paired_on.Statement.{statement}
+use Rattle.recording.proofs.check.paired_on.Tie as tie
+use Rattle.recording.proofs.check.paired_on.Reads as reads
+use Rattle.recording.proofs.check.paired_on.Lts as lts
+use Rattle.chunk.proofs.interleave.interleave_at.Reads as interleave-at-reads
+
+-- src/check.rt:97:9
+returns : tie.Need-returns
+returns c = ?
+
+-- src/check.rt:99:11
+interleave-at-requires : tie.Need-interleave-at-requires
+interleave-at-requires c κs = search needs
+
+-- src/check.rt:100:26
+enum-told : tie.Need-enum-told
+enum-told c = search needs
+
+-- src/check.rt:101:30
+enum-told-2 : tie.Need-enum-told-2
+enum-told-2 c = search needs
+
+-- src/check.rt:93:1
+returns-2 : tie.Need-returns-2
+returns-2 c = ?
+
+-- src/check.rt:93:1
+returns-3 : tie.Need-returns-3
+returns-3 c = ?
+
+pub paired-on-spec : {M : Type 1} → statement M
+paired-on-spec =
+    tie.close (tie.spec returns interleave-at-requires enum-told enum-told-2 returns-2 returns-3)

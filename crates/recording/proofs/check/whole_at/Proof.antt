@@ -1,0 +1,34 @@
+use borrow.Author.Needs.{needs}
+use Rattle.recording.proofs.check.whole_at.Statement.{statement}
+use Rattle.recording.proofs.check.whole_at.Tie as tie
+use Rattle.recording.proofs.check.whole_at.Reads as reads
+use Rattle.recording.proofs.check.whole_at.Lts as lts
+use Rattle.demuxer.proofs.head.body_at.Reads as body-at-reads
+
+-- src/check.rt:55:25
+add-body-at : tie.Need-add-body-at
+add-body-at c = search needs
+
+-- src/check.rt:55:11
+body-at-requires : tie.Need-body-at-requires
+body-at-requires c κs = search needs
+
+-- src/check.rt:56:30
+enum-told : tie.Need-enum-told
+enum-told c = search needs
+
+-- src/check.rt:57:24
+enum-told-2 : tie.Need-enum-told-2
+enum-told-2 c = search needs
+
+-- src/check.rt:51:1
+returns : tie.Need-returns
+returns c = ?
+
+-- src/check.rt:51:1
+returns-2 : tie.Need-returns-2
+returns-2 c = ?
+
+pub whole-at-spec : {M : Type 1} → statement M
+whole-at-spec =
+    tie.close (tie.spec add-body-at body-at-requires enum-told enum-told-2 returns returns-2)
