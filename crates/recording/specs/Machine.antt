@@ -100,9 +100,9 @@ Agrees refuses a = a ≡ seekAnswer (refused (numbered 42 0))
 
 abbrev pub AllAgree : List Says → List CallAnswer → Type 0
 AllAgree [] [] = Unit
-AllAgree [] (a ∷ as) = ⊥
+AllAgree [] (a ∷ rest) = ⊥
 AllAgree (s ∷ ss) [] = ⊥
-AllAgree (s ∷ ss) (a ∷ as) = Agrees s a × AllAgree ss as
+AllAgree (s ∷ ss) (a ∷ rest) = Agrees s a × AllAgree ss rest
 
 -- "the packets left (those that reads alone then give until the first End), with stream, payload, stamp and duration"
 pub data Left (file : List ℕ) : Walker → List Shown → Type 0 where

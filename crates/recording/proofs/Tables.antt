@@ -1,0 +1,107 @@
+-- The index of a finished recording: a record for each chunk, written and read back. Assumes nothing.
+use mathlib.Core.Path.{_≡_, refl, sym, ap, ap₂, _∙_}
+use mathlib.Core.Bool.{Bool, true, false, cond}
+use mathlib.Core.List.{List, [], _∷_, _++_, append-assoc, append-nil}
+use Prim.Native.Nat.{ℕ, zero, suc, _+_, _*_, _/_, _%_, _^_, _≤_, _<_, min}
+use native.Mathlib.Nat.{add-zero}
+use native.Mathlib.Omega.{arith}
+use borrow.Author.Tests.{le-leb}
+use lib.ListN.{length, length-append}
+use Rattle.error.specs.Answer.{Answer, accepted, ask, andThen}
+use Rattle.fields.specs.File.{fileLimit, withinLimit}
+use Rattle.fields.specs.Le.{Bytes}
+use Rattle.demuxer.specs.Position.{start}
+use Rattle.demuxer.specs.declared.position.Position.{Position}
+use Rattle.chunk_index.specs.Walk.{Kind, frame, sound, Walk, walk, past}
+use Rattle.chunk_index.specs.Chunks.{Chunk, chunkOf, chunkBytes, chunksBytes, trailerBytes, Lengths, walkOf}
+use Rattle.chunk_index.specs.Entry.{kindTag, entry, entryBytes, Small, tableBytes, entryAt, entriesFrom, entriesOf}
+use Rattle.chunk_index.specs.Index.{recorded, records, tagsKnown, fileWalk, indexOf}
+use Rattle.chunk_index.specs.declared.entry.ChunkIndexEntry.{ChunkIndexEntry}
+use Rattle.chunk_index.proofs.Chunked.{chunks-walked}
+use Rattle.chunk_index.proofs.Entries.{entry-back, length-entryBytes}
+use Rattle.recording.specs.Grammar.{Finished}
+use Rattle.recording.proofs.Positions.{passed, Bounded, stepped, length-chunk, bytes-right, bytes-payload}
+
+-- the records of chunks from a position on
+unfoldable pub marks : Position → List Chunk → List ChunkIndexEntry
+marks p [] = []
+marks p (chunkOf kind payload ∷ cs) = entry kind p ∷ marks (passed p kind payload) cs
+
+recorded-whole : (kind : Kind) (payload : List ℕ) → recorded kind payload 0 ≡ true
+recorded-whole frame payload = refl
+recorded-whole sound payload = le-leb (min 8 (length payload + 0)) (length payload) (omega arith)
+
+past-whole : (p : Position) (kind : Kind) (payload : List ℕ) → past p kind payload 0 ≡ passed p kind payload
+past-whole p frame payload = rw add-zero
+past-whole p sound payload = rw add-zero
+
+pub records-marks : (p : Position) (cs : List Chunk) (n : ℕ) → records p (walkOf cs n) ≡ marks p cs
+unfolding marks records walkOf
+records-marks p [] n = refl
+records-marks p (chunkOf kind payload ∷ cs) n = rw (recorded-whole kind payload, past-whole p kind payload, records-marks (passed p kind payload) cs n)
+
+pub tags-known : (at : ℕ) (cs : List Chunk) (n : ℕ) → tagsKnown at (walkOf cs n) ≡ accepted tt
+unfolding tagsKnown walkOf
+tags-known at [] n = refl
+tags-known at (chunkOf kind payload ∷ cs) n = rw (recorded-whole kind payload) (tags-known (at + (8 + (length payload + 0))) cs n)
+
+-- the walk of a finished recording
+pub finished-walk : (file : List ℕ) (cs : List Chunk) → Finished file cs → fileWalk file ≡ walkOf cs 0
+finished-walk file cs fin =
+    let e : file ≡ fin .prelude ++ (chunksBytes cs ++ (trailerBytes ++ [])) =
+      fin .is ∙ ap (λ (l : List ℕ). fin .prelude ++ (chunksBytes cs ++ l)) (sym (append-nil trailerBytes)) in
+    (λ i. walk (e i) (sym (fin .whole) i)) ∙ chunks-walked (fin .prelude) cs [] (fin .lengths)
+
+pub index-marks : (file : List ℕ) (cs : List Chunk) → Finished file cs → indexOf file ≡ accepted (marks start cs)
+unfolding indexOf
+index-marks file cs fin =
+    rw (le-leb (length file) fileLimit (fin .fits), finished-walk file cs fin, tags-known 316 cs 0, records-marks start cs 0)
+
+-- ---- a table of records, read back
+
+pub record Fits (e : ChunkIndexEntry) : Type 0 where
+  pub tag-fits : e .tag < 256 ^ 4
+  pub small : Small (e .position)
+  pub samples-fit : e .position .samples .0 < 256 ^ 8
+
+abbrev pub AllFit : List ChunkIndexEntry → Type 0
+AllFit [] = Unit
+AllFit (e ∷ es) = Fits e × AllFit es
+
+pub length-table : (es : List ChunkIndexEntry) → length (tableBytes es) ≡ 24 * length es
+unfolding tableBytes
+length-table [] = refl
+length-table (e ∷ es) = omega (arith, length-append (entryBytes e) (tableBytes es), length-entryBytes e, length-table es)
+
+pub entries-back : (xs : List ℕ) (es : List ChunkIndexEntry) → AllFit es → entriesFrom (length es) (xs ++ tableBytes es) (length xs) ≡ es
+unfolding tableBytes entriesFrom
+entries-back xs [] f = refl
+entries-back xs (e ∷ es) f =
+    let a : xs ++ (entryBytes e ++ tableBytes es) ≡ (xs ++ entryBytes e) ++ tableBytes es = sym (append-assoc xs (entryBytes e) (tableBytes es)) in
+    let n : length xs + 24 ≡ length (xs ++ entryBytes e) = omega (arith, length-append xs (entryBytes e), length-entryBytes e) in
+    ap₂ (λ (x : ChunkIndexEntry) (l : List ChunkIndexEntry). x ∷ l)
+    (entry-back xs (tableBytes es) e (f .0 .tag-fits) (f .0 .small) (f .0 .samples-fit))
+    ((λ i. entriesFrom (length es) (a i) (n i)) ∙ entries-back (xs ++ entryBytes e) es (f .1))
+
+pub table-back : (es : List ChunkIndexEntry) → AllFit es → entriesOf (tableBytes es) ≡ es
+table-back es f =
+    let n : length (tableBytes es) / 24 ≡ length es = omega (arith, length-table es) in
+    ap (λ (k : ℕ). entriesFrom k (tableBytes es) 0) n ∙ entries-back [] es f
+
+tag-fit : (kind : Kind) → kindTag kind < 256 ^ 4
+tag-fit frame = omega arith
+tag-fit sound = omega arith
+
+-- every record of few enough bytes fits
+pub marks-fit : (p : Position) (cs : List Chunk) → Bytes (chunksBytes cs)
+    → p .cursor + length (chunksBytes cs) < 4294967296 → 8 * p .frames .0 + length (chunksBytes cs) < 34359738368
+    → 8 * p .blocks .0 + length (chunksBytes cs) < 34359738368 → p .samples .0 + 268435456 * length (chunksBytes cs) < 18446744073709551616
+    → AllFit (marks p cs)
+unfolding marks chunksBytes
+marks-fit p [] y a b c d = tt
+marks-fit p (chunkOf kind payload ∷ cs) y a b c d =
+    let l = length-append (chunkBytes (chunkOf kind payload)) (chunksBytes cs) in
+    let m = length-chunk kind payload in
+    let t : Bounded p (passed p kind payload) (8 + length payload) = stepped p kind payload (bytes-payload kind payload _ y) in
+    (record { tag-fits = tag-fit kind; small = record { cursor-small = omega arith; frames-small = omega arith; blocks-small = omega arith }; samples-fit = omega arith },
+      marks-fit (passed p kind payload) cs (bytes-right (chunkBytes (chunkOf kind payload)) _ y) (omega arith) (omega arith) (omega arith) (omega arith))
