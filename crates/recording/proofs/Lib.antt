@@ -1,3 +1,5 @@
 pub mod Positions
 pub mod Tables
 pub mod Seeks
+pub mod Readings
+pub mod Lists

@@ -88,7 +88,7 @@ table-back es f =
     let n : length (tableBytes es) / 24 ≡ length es = omega (arith, length-table es) in
     ap (λ (k : ℕ). entriesFrom k (tableBytes es) 0) n ∙ entries-back [] es f
 
-tag-fit : (kind : Kind) → kindTag kind < 256 ^ 4
+pub tag-fit : (kind : Kind) → kindTag kind < 256 ^ 4
 tag-fit frame = omega arith
 tag-fit sound = omega arith
 
