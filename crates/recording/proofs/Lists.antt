@@ -2,34 +2,33 @@
 use mathlib.Core.Path.{_≡_, refl, sym, ap, ap₂, _∙_, subst}
 use mathlib.Core.Bool.{Bool, true, false, cond}
 use mathlib.Core.List.{List, [], _∷_, _++_, append-assoc}
-use mathlib.Core.Option.{Option, none, some}
-use Prim.Native.Nat.{ℕ, zero, suc, _+_, _-_, _*_, _/_, _%_, _≤_, _<_}
+use mathlib.Core.Option.{none, some}
+use Prim.Native.Nat.{ℕ, zero, suc, _+_, _-_, _%_, _≤_, _<_}
 use native.Mathlib.Nat.{le-of-suc-le-suc, not-suc-le-zero, lt-of-not-le}
 use native.Mathlib.Decide.{decLe}
 use native.Mathlib.Omega.{arith}
 use borrow.Author.Tests.{eq-eqb, leb-true}
-use lib.Dec.{leb, eqb}
+use lib.Dec.{leb}
 use lib.IntN.{ℤ}
 use lib.ListN.{length, take, drop, getElem?, length-append, drop-of-length-le}
-use Rattle.error.specs.Answer.{Answer, accepted, refused, numbered, ask, andThen}
+use Rattle.error.specs.Answer.{Answer, accepted, refused, numbered}
 use Rattle.fields.specs.Le.{leBytes, Bytes}
 use Rattle.demuxer.specs.Packet.{Shown}
-use Rattle.demuxer.specs.Position.{start, inRange, InRange}
+use Rattle.demuxer.specs.Position.{start, InRange}
 use Rattle.demuxer.specs.Read.{ReadAnswer, packet, End, fresh, atTrailer, advanced, readOf}
 use Rattle.demuxer.specs.declared.position.Position.{Position}
 use Rattle.demuxer.specs.declared.walker.Walker.{Walker}
 use Rattle.demuxer.proofs.Ranges.{in-range}
 use Rattle.chunk_index.specs.Chunks.{Chunk, chunkOf, chunkBytes, chunksBytes, trailerBytes}
 use Rattle.chunk_index.specs.Entry.{tableBytes, entriesOf}
-use Rattle.chunk_index.specs.Index.{indexOf}
 use Rattle.chunk_index.specs.declared.entry.ChunkIndexEntry.{ChunkIndexEntry}
-use Rattle.seek.specs.Seek.{seekQuestions, goodEntries, find, pastLast, landed, soughtFrom, seekOf, Seeking}
+use Rattle.seek.specs.Seek.{seekQuestions, goodEntries, find, pastLast, landed, soughtFrom, seekOf}
 use Rattle.recording.specs.Grammar.{Finished}
 use Rattle.recording.specs.Drain.{drain}
 use Rattle.recording.specs.Machine.{Call, read, seek, MachineStep, onRead, onSeek, first, refuses, machineStep, machineSays, machineAfter, readAnswer, seekAnswer, Called, call, answers, after, Agrees, AllAgree, Left, none-left, one-more, AtChunk, Agreement, OwnIndex, ReadsAndSeeks, HasIndex}
-use Rattle.recording.proofs.Positions.{passed, shownAt, positionAt, drainAt, length-drain, Here, here, chunks-split, counted, bounded, bytes-left, bytes-right}
+use Rattle.recording.proofs.Positions.{passed, shownAt, positionAt, length-drain, Here, here, chunks-split, counted, bounded, bytes-left, bytes-right}
 use Rattle.recording.proofs.Tables.{marks, index-marks, length-table, table-back, marks-fit}
-use Rattle.recording.proofs.Seeks.{Hit, Finds, hit, miss, finds, all-good, last-range}
+use Rattle.recording.proofs.Seeks.{Finds, hit, miss, finds, all-good, last-range}
 use Rattle.recording.proofs.Readings.{read-chunk, read-trailer, read-ended}
 
 -- ---- the invariant: a walker against a position of the machine
@@ -71,7 +70,7 @@ stand cs w k (on-the-way i) h =
       cursor-is = ap (λ (p : Position). p .cursor) (i .on) ∙ n .cursor-is;
       frames-is = ap (λ (p : Position). p .frames .0) (i .on) ∙ omega arith;
       samples-is = ap (λ (p : Position). p .samples .0) (i .on) ∙ omega arith;
-      blocks-is = ap (λ (p : Position). p .blocks .0) (i .on) ∙ omega arith
+      blocks-is = ap (λ (p : Position). p .blocks .0) (i .on) ∙ omega arith;
     }
 stand cs w k (at-the-end i) h = absurd (omega (arith, i .last))
 
@@ -119,10 +118,10 @@ module _ (file : List ℕ) (cs : List Chunk) (all : Bytes file) (fin : Finished 
 
   -- ---- a read
 
-  abbrev reading : Walker → Called
+  abbrev pub reading : Walker → Called
   reading w = record { answer = readAnswer (readOf file w .answer); walker = readOf file w .walker }
 
-  abbrev readStep : ℕ → MachineStep
+  abbrev pub readStep : ℕ → MachineStep
   readStep k = onRead k (getElem? (drain cs) k)
 
   read-at-end : (w : Walker) (k : ℕ) → Going cs w k → length cs ≤ k → Turn cs (reading w) (readStep k)
@@ -131,7 +130,7 @@ module _ (file : List ℕ) (cs : List Chunk) (all : Bytes file) (fin : Finished 
       let r = inv-range w k (on-the-way i) in
       let f : file ≡ before k ++ trailerBytes = split-file k ∙ ap (λ (l : List Chunk). before k ++ (chunksBytes l ++ trailerBytes)) (drop-of-length-le cs h) in
       let o : readOf file w ≡ record { answer = End; walker = atTrailer w } =
-        read-trailer file w (before k) (fin .fits) (in-range (w .position) r) (i .going) (ap (λ (p : Position). p .cursor) (i .on) ∙ at-cursor k) f in
+      read-trailer file w (before k) (fin .fits) (in-range (w .position) r) (i .going) (ap (λ (p : Position). p .cursor) (i .on) ∙ at-cursor k) f in
       rw (o, none-past cs k h) (record { agrees = refl; keeps = at-the-end (record { over = refl; range = r; last = omega (arith, i .within) }) })
 
   read-at-chunk : (w : Walker) (k : ℕ) → Going cs w k → k < length cs → Turn cs (reading w) (readStep k)
@@ -141,12 +140,12 @@ module _ (file : List ℕ) (cs : List Chunk) (all : Bytes file) (fin : Finished 
       let r = inv-range w k (on-the-way i) in
       let ys : List ℕ = chunksBytes (drop (suc k) cs) ++ trailerBytes in
       let f : file ≡ before k ++ (chunkBytes (chunkOf (c .kind) (c .payload)) ++ ys) =
-        split-file k
-        ∙ ap (λ (l : List Chunk). before k ++ (chunksBytes l ++ trailerBytes)) (c .rest)
-        ∙ ap (λ (l : List ℕ). before k ++ l) (append-assoc (chunkBytes (chunkOf (c .kind) (c .payload))) (chunksBytes (drop (suc k) cs)) trailerBytes) in
+      split-file k
+      ∙ ap (λ (l : List Chunk). before k ++ (chunksBytes l ++ trailerBytes)) (c .rest)
+      ∙ ap (λ (l : List ℕ). before k ++ l) (append-assoc (chunkBytes (chunkOf (c .kind) (c .payload))) (chunksBytes (drop (suc k) cs)) trailerBytes) in
       let o : readOf file w ≡ record { answer = packet (shownAt (w .position) (c .kind) (c .payload)); walker = advanced w (passed (w .position) (c .kind) (c .payload)) } =
-        read-chunk file w (before k) (fin .fits) (in-range (w .position) r) (c .kind) (c .payload) ys (c .small) (i .going)
-        (ap (λ (p : Position). p .cursor) (i .on) ∙ at-cursor k) f in
+      read-chunk file w (before k) (fin .fits) (in-range (w .position) r) (c .kind) (c .payload) ys (c .small) (i .going)
+      (ap (λ (p : Position). p .cursor) (i .on) ∙ at-cursor k) f in
       rw (o, c .shown)
       (record {
         agrees = ap (λ (p : Position). readAnswer (packet (shownAt p (c .kind) (c .payload)))) (i .on);
@@ -154,8 +153,8 @@ module _ (file : List ℕ) (cs : List Chunk) (all : Bytes file) (fin : Finished 
             on-the-way (record {
               on = ap (λ (p : Position). passed p (c .kind) (c .payload)) (i .on) ∙ sym (c .next);
               going = i .going;
-              within = h
-            })
+              within = h;
+            });
       })
 
   pub read-turn : (w : Walker) (k : ℕ) → Invariant cs w k → Turn cs (reading w) (readStep k)
@@ -166,7 +165,7 @@ module _ (file : List ℕ) (cs : List Chunk) (all : Bytes file) (fin : Finished 
 
   -- ---- what is left
 
-  pub lefts : (n : ℕ) (w : Walker) (k : ℕ) → k + n ≡ length cs → Invariant cs w k → Left file w (drop k (drain cs))
+  lefts : (n : ℕ) (w : Walker) (k : ℕ) → k + n ≡ length cs → Invariant cs w k → Left file w (drop k (drain cs))
   lefts zero w k e i =
       let t : Turn cs (reading w) (onRead k none) = rw (none-past cs k (omega arith)) at (read-turn w k i) in
       rw (drop-of-length-le (drain cs) {i = k} (omega (arith, length-drain start cs))) (none-left {w = w} (told (t .agrees)))
@@ -174,6 +173,9 @@ module _ (file : List ℕ) (cs : List Chunk) (all : Bytes file) (fin : Finished 
       let c : Here start k cs = here start k cs (fin .lengths) (omega arith) in
       let t : Turn cs (reading w) (onRead k (some _)) = rw (c .shown) at (read-turn w k i) in
       rw (c .left) (one-more {w = w} (told (t .agrees)) (lefts n (readOf file w .walker) (suc k) (omega arith) (t .keeps)))
+
+  pub left-of : (w : Walker) (k : ℕ) → Invariant cs w k → Left file w (drop k (drain cs))
+  left-of w k i = lefts (length cs - k) w k (omega (arith, within cs w k i)) i
 
   -- ---- the index
 
@@ -213,10 +215,10 @@ module _ (file : List ℕ) (cs : List Chunk) (all : Bytes file) (fin : Finished 
 
     -- ---- a seek
 
-    abbrev seeking : Walker → ℕ → ℤ → Called
+    abbrev pub seeking : Walker → ℕ → ℤ → Called
     seeking w stream request = record { answer = seekAnswer (seekOf table w stream request .answer); walker = seekOf table w stream request .walker }
 
-    abbrev seekStep : ℕ → ℤ → MachineStep
+    abbrev pub seekStep : ℕ → ℤ → MachineStep
     seekStep stream request = onSeek (first stream request (drain cs)) (getElem? (drain cs) (first stream request (drain cs)))
 
     seek-asks : (w : Walker) (stream : ℕ) → leb stream 1 ≡ true → InRange (w .position) → seekQuestions table w stream ≡ accepted tt
@@ -241,13 +243,13 @@ module _ (file : List ℕ) (cs : List Chunk) (all : Bytes file) (fin : Finished 
         rw (seek-lands w stream request s r, f .found, f .first-is, f .shown-is)
         (record {
           agrees = ap (λ (n : ℕ). seekAnswer (accepted n)) (sym (f .stamp-is));
-          keeps = on-the-way (record { on = f .at-is; going = refl; within = omega (arith, f .inside) })
+          keeps = on-the-way (record { on = f .at-is; going = refl; within = omega (arith, f .inside) });
         })
     land-turn w stream request s r (miss a b) =
         rw (seek-lands w stream request s r, a, b, none-past cs (length cs) (omega arith))
         (record {
           agrees = (_, refl);
-          keeps = at-the-end (record { over = refl; range = end-range (w .position) r; last = refl })
+          keeps = at-the-end (record { over = refl; range = end-range (w .position) r; last = refl });
         })
 
     -- ---- one call
@@ -281,8 +283,8 @@ module _ (file : List ℕ) (cs : List Chunk) (all : Bytes file) (fin : Finished 
         let r = run fresh 0 calls (begins cs) in
         record {
           agree = r .agree;
-          left = lefts (length cs - machineAfter (drain cs) 0 calls) _ _ (omega (arith, within cs _ _ (r .holds))) (r .holds);
-          stands = λ h. stand cs _ _ (r .holds) h
+          left = left-of _ _ (r .holds);
+          stands = λ h. stand cs _ _ (r .holds) h;
         }
 
 pub reads-and-seeks : ReadsAndSeeks

@@ -2,18 +2,18 @@
 use mathlib.Core.Path.{_≡_, refl, sym, ap, _∙_}
 use mathlib.Core.Bool.{Bool, true, false, cond}
 use mathlib.Core.List.{List, [], _∷_, _++_, append-assoc}
-use mathlib.Core.Option.{Option, none, some}
-use Prim.Native.Nat.{ℕ, zero, suc, _+_, _*_, _^_, _≤_, _<_}
+use mathlib.Core.Option.{some}
+use Prim.Native.Nat.{ℕ, zero, suc, _+_, _*_, _≤_, _<_}
 use native.Mathlib.Nat.{le-of-suc-le-suc, not-suc-le-zero}
 use native.Mathlib.Omega.{arith}
 use borrow.Author.Tests.{leb-true}
 use lib.Dec.{leb}
-use lib.ListN.{length, take, drop, getD, getElem?, length-append, List·getD-append, List·getD-eq-default}
+use lib.ListN.{length, take, drop, getElem?, length-append, List·getD-append, List·getD-eq-default}
 use lib.Seq.{getD-append-add}
 use native.Mathlib.Decide.{decLe}
 use native.Mathlib.Nat.{lt-of-not-le}
 use Rattle.fields.specs.Le.{le, leBytes, Bytes}
-use Rattle.fields.proofs.Laws.{le-lt, length-leBytes}
+use Rattle.fields.proofs.Laws.{le-lt}
 use Rattle.demuxer.specs.Head.{countOf}
 use Rattle.demuxer.specs.Packet.{Shown, durationOf, ticks}
 use Rattle.demuxer.specs.Position.{pastFrame, pastSound}
@@ -77,7 +77,7 @@ here p (suc k) (chunkOf kind payload ∷ cs) l h =
       rest = i .rest;
       next = i .next;
       shown = rw drain-cons (i .shown);
-      left = rw drain-cons (i .left)
+      left = rw drain-cons (i .left);
     }
 
 -- ---- the bytes before chunk k and those from it on

@@ -1,17 +1,17 @@
 -- One read, where a chunk or the trailer stands at the cursor. Assumes nothing.
-use mathlib.Core.Path.{_≡_, refl, sym, ap, _∙_}
+use mathlib.Core.Path.{_≡_, refl, ap, _∙_}
 use mathlib.Core.Bool.{Bool, true, false, cond}
-use mathlib.Core.List.{List, [], _∷_, _++_, append-assoc}
-use Prim.Native.Nat.{ℕ, _+_, _^_, _≤_, _<_}
+use mathlib.Core.List.{List, [], _++_, append-assoc}
+use Prim.Native.Nat.{ℕ, _+_, _≤_}
 use native.Mathlib.Omega.{arith}
 use borrow.Author.Tests.{le-leb}
 use lib.Dec.{leb}
-use lib.ListN.{length, take, drop, length-append}
+use lib.ListN.{length, length-append}
 use Rattle.fields.specs.File.{fileLimit}
 use Rattle.fields.specs.Le.{leBytes}
-use Rattle.demuxer.specs.Head.{headAt, chunkHead, isTrailer, trailerTag, trailerSize}
+use Rattle.demuxer.specs.Head.{headAt, chunkHead, trailerTag, trailerSize}
 use Rattle.demuxer.specs.Position.{inRange}
-use Rattle.demuxer.specs.Read.{Reading, packet, End, atTrailer, advanced, payloadAt, readFrame, readSound, readHead, readChunk, readOf}
+use Rattle.demuxer.specs.Read.{packet, End, atTrailer, advanced, payloadAt, readFrame, readSound, readHead, readChunk, readOf}
 use Rattle.demuxer.specs.declared.head.Head.the-variants as head
 use Rattle.demuxer.specs.declared.walker.Walker.{Walker}
 use Rattle.demuxer.proofs.Steps.{read-on}
@@ -19,12 +19,8 @@ use Rattle.demuxer.proofs.Suffixes.{chunk-suffix, trailer-suffix, payload-suffi
 use Rattle.chunk_index.specs.Walk.{Kind, frame, sound}
 use Rattle.chunk_index.specs.Chunks.{chunkOf, chunkBytes, trailerBytes}
 use Rattle.chunk_index.specs.Entry.{kindTag}
+use Rattle.chunk_index.proofs.Chunked.{tag-held, tag-no-trailer}
 use Rattle.recording.proofs.Positions.{passed, shownAt}
-use Rattle.recording.proofs.Tables.{tag-fit}
-
-no-trailer : (kind : Kind) (size : ℕ) → isTrailer (kindTag kind) size ≡ false
-no-trailer frame size = refl
-no-trailer sound size = refl
 
 -- a whole payload
 head-read : (file : List ℕ) (w : Walker) (kind : Kind) (payload : List ℕ) → leb (w .position .cursor + 8 + length payload) (length file) ≡ true
@@ -45,7 +41,7 @@ module _ (file : List ℕ) (w : Walker) (xs : List ℕ) (fits : length file ≤ 
       let tag : ℕ = kindTag kind in
       let f : file ≡ xs ++ (leBytes 4 tag ++ (leBytes 4 n ++ (payload ++ ys))) = is ∙ simp append-assoc in
       let h : headAt file (w .position .cursor) ≡ chunkHead tag n =
-        (λ i. headAt (f i) (at i)) ∙ chunk-suffix xs (payload ++ ys) tag n (tag-fit kind) (omega arith) (no-trailer kind n) in
+      (λ i. headAt (f i) (at i)) ∙ chunk-suffix xs (payload ++ ys) tag n (tag-held kind) (omega arith) (tag-no-trailer kind n) in
       let b : payloadAt file (w .position .cursor) n ≡ payload = (λ i. payloadAt (f i) (at i) n) ∙ payload-suffix xs payload ys tag n in
       let l : length file ≡ length xs + (8 + (n + length ys)) = ap length f ∙ (unfold leBytes in simp length-append (omega arith)) in
       read-on file w (le-leb (length file) fileLimit fits) range going
@@ -56,7 +52,7 @@ module _ (file : List ℕ) (w : Walker) (xs : List ℕ) (fits : length file ≤ 
   unfolding trailerBytes readChunk leBytes
   read-trailer going at is =
       let h : headAt file (w .position .cursor) ≡ head.Trailer =
-        (λ i. headAt (is i) (at i)) ∙ trailer-suffix xs [] trailerTag trailerSize (omega arith) (omega arith) refl in
+      (λ i. headAt (is i) (at i)) ∙ trailer-suffix xs [] trailerTag trailerSize (omega arith) (omega arith) refl in
       read-on file w (le-leb (length file) fileLimit fits) range going ∙ ap (readHead file w) h
 
   pub read-ended : w .end ≡ true → readOf file w ≡ record { answer = End; walker = w }

@@ -1,26 +1,24 @@
 -- What a seek finds among the records of a finished recording. Assumes nothing.
-use mathlib.Core.Path.{_≡_, refl, sym, ap, ap₂, _∙_}
-use mathlib.Core.Bool.{Bool, true, false, cond, _&&_, _||_}
-use mathlib.Core.List.{List, [], _∷_, _++_}
-use mathlib.Core.Option.{Option, none, some}
+use mathlib.Core.Path.{_≡_, refl, ap}
+use mathlib.Core.Bool.{Bool, true, false, cond, _&&_}
+use mathlib.Core.List.{List, [], _∷_}
+use mathlib.Core.Option.{none, some}
 use Prim.Native.Nat.{ℕ, zero, suc, _+_, _*_, _≤_, _<_, suc-le-suc}
 use native.Mathlib.Nat.{zero-lt-suc}
 use native.Mathlib.Omega.{arith}
 use borrow.Author.Tests.{lt-ltb}
-use lib.Dec.{eqb, ltb}
+use lib.Dec.{eqb}
 use lib.IntN.{ℤ, pos}
 use lib.ListN.{length, getElem?, length-append}
 use lib.Signed.{leZ}
-use Rattle.chunk.specs.Chunk.{videoTag, audioTag}
-use Rattle.error.specs.Answer.{Answer, accepted, ask}
+use Rattle.error.specs.Answer.{accepted}
 use Rattle.fields.specs.Le.{Bytes}
 use Rattle.demuxer.specs.Packet.{Shown}
 use Rattle.demuxer.specs.Position.{countLimit, InRange}
 use Rattle.demuxer.specs.declared.position.Position.{Position}
 use Rattle.chunk_index.specs.Walk.{Kind, frame, sound}
 use Rattle.chunk_index.specs.Chunks.{Chunk, chunkOf, chunkBytes, chunksBytes}
-use Rattle.chunk_index.specs.Entry.{kindTag, entry}
-use Rattle.chunk_index.specs.declared.entry.ChunkIndexEntry.{ChunkIndexEntry}
+use Rattle.chunk_index.specs.Entry.{entry}
 use Rattle.seek.specs.Seek.{stampOf, goodEntry, goodEntries, reaches, find, beyond, pastLast}
 use Rattle.recording.specs.Drain.{drainFrom}
 use Rattle.recording.specs.Machine.{first}
@@ -88,7 +86,7 @@ finds stream request p (chunkOf kind payload ∷ cs) h = go _ refl (finds stream
           found = rw (test-same stream request p kind payload h, t);
           at-is = refl;
           shown-is = rw drain-cons;
-          stamp-is = same-stamp stream request p kind payload h t
+          stamp-is = same-stamp stream request p kind payload h t;
         })
     go false t (hit f) =
         hit (record {
@@ -100,7 +98,7 @@ finds stream request p (chunkOf kind payload ∷ cs) h = go _ refl (finds stream
           found = rw (test-same stream request p kind payload h, t) (f .found);
           at-is = f .at-is;
           shown-is = rw drain-cons (f .shown-is);
-          stamp-is = f .stamp-is
+          stamp-is = f .stamp-is;
         })
     go false t (miss a b) = miss (rw (test-same stream request p kind payload h, t) a) (rw (first-cons stream request p kind payload cs, t) (ap suc b))
 

@@ -1,23 +1,23 @@
 -- The index of a finished recording: a record for each chunk, written and read back. Assumes nothing.
 use mathlib.Core.Path.{_≡_, refl, sym, ap, ap₂, _∙_}
-use mathlib.Core.Bool.{Bool, true, false, cond}
+use mathlib.Core.Bool.{true}
 use mathlib.Core.List.{List, [], _∷_, _++_, append-assoc, append-nil}
-use Prim.Native.Nat.{ℕ, zero, suc, _+_, _*_, _/_, _%_, _^_, _≤_, _<_, min}
+use Prim.Native.Nat.{ℕ, _+_, _*_, _/_, _^_, _<_, min}
 use native.Mathlib.Nat.{add-zero}
 use native.Mathlib.Omega.{arith}
 use borrow.Author.Tests.{le-leb}
 use lib.ListN.{length, length-append}
-use Rattle.error.specs.Answer.{Answer, accepted, ask, andThen}
-use Rattle.fields.specs.File.{fileLimit, withinLimit}
+use Rattle.error.specs.Answer.{accepted}
+use Rattle.fields.specs.File.{fileLimit}
 use Rattle.fields.specs.Le.{Bytes}
 use Rattle.demuxer.specs.Position.{start}
 use Rattle.demuxer.specs.declared.position.Position.{Position}
-use Rattle.chunk_index.specs.Walk.{Kind, frame, sound, Walk, walk, past}
-use Rattle.chunk_index.specs.Chunks.{Chunk, chunkOf, chunkBytes, chunksBytes, trailerBytes, Lengths, walkOf}
-use Rattle.chunk_index.specs.Entry.{kindTag, entry, entryBytes, Small, tableBytes, entryAt, entriesFrom, entriesOf}
+use Rattle.chunk_index.specs.Walk.{Kind, frame, sound, walk, past}
+use Rattle.chunk_index.specs.Chunks.{Chunk, chunkOf, chunkBytes, chunksBytes, trailerBytes, walkOf}
+use Rattle.chunk_index.specs.Entry.{entry, entryBytes, Small, tableBytes, entriesFrom, entriesOf}
 use Rattle.chunk_index.specs.Index.{recorded, records, tagsKnown, fileWalk, indexOf}
 use Rattle.chunk_index.specs.declared.entry.ChunkIndexEntry.{ChunkIndexEntry}
-use Rattle.chunk_index.proofs.Chunked.{chunks-walked}
+use Rattle.chunk_index.proofs.Chunked.{tag-held, chunks-walked}
 use Rattle.chunk_index.proofs.Entries.{entry-back, length-entryBytes}
 use Rattle.recording.specs.Grammar.{Finished}
 use Rattle.recording.proofs.Positions.{passed, Bounded, stepped, length-chunk, bytes-right, bytes-payload}
@@ -49,7 +49,7 @@ tags-known at (chunkOf kind payload ∷ cs) n = rw (recorded-whole kind payload)
 pub finished-walk : (file : List ℕ) (cs : List Chunk) → Finished file cs → fileWalk file ≡ walkOf cs 0
 finished-walk file cs fin =
     let e : file ≡ fin .prelude ++ (chunksBytes cs ++ (trailerBytes ++ [])) =
-      fin .is ∙ ap (λ (l : List ℕ). fin .prelude ++ (chunksBytes cs ++ l)) (sym (append-nil trailerBytes)) in
+    fin .is ∙ ap (λ (l : List ℕ). fin .prelude ++ (chunksBytes cs ++ l)) (sym (append-nil trailerBytes)) in
     (λ i. walk (e i) (sym (fin .whole) i)) ∙ chunks-walked (fin .prelude) cs [] (fin .lengths)
 
 pub index-marks : (file : List ℕ) (cs : List Chunk) → Finished file cs → indexOf file ≡ accepted (marks start cs)
@@ -88,10 +88,6 @@ table-back es f =
     let n : length (tableBytes es) / 24 ≡ length es = omega (arith, length-table es) in
     ap (λ (k : ℕ). entriesFrom k (tableBytes es) 0) n ∙ entries-back [] es f
 
-pub tag-fit : (kind : Kind) → kindTag kind < 256 ^ 4
-tag-fit frame = omega arith
-tag-fit sound = omega arith
-
 -- every record of few enough bytes fits
 pub marks-fit : (p : Position) (cs : List Chunk) → Bytes (chunksBytes cs)
     → p .cursor + length (chunksBytes cs) < 4294967296 → 8 * p .frames .0 + length (chunksBytes cs) < 34359738368
@@ -102,6 +98,7 @@ marks-fit p [] y a b c d = tt
 marks-fit p (chunkOf kind payload ∷ cs) y a b c d =
     let l = length-append (chunkBytes (chunkOf kind payload)) (chunksBytes cs) in
     let m = length-chunk kind payload in
-    let t : Bounded p (passed p kind payload) (8 + length payload) = stepped p kind payload (bytes-payload kind payload _ y) in
-    (record { tag-fits = tag-fit kind; small = record { cursor-small = omega arith; frames-small = omega arith; blocks-small = omega arith }; samples-fit = omega arith },
-      marks-fit (passed p kind payload) cs (bytes-right (chunkBytes (chunkOf kind payload)) _ y) (omega arith) (omega arith) (omega arith) (omega arith))
+    let t : Bounded p (passed p kind payload) (8 + length payload) = stepped p kind payload (bytes-payload kind payload _ y) in (
+      record { tag-fits = tag-held kind; small = record { cursor-small = omega arith; frames-small = omega arith; blocks-small = omega arith }; samples-fit = omega arith },
+      marks-fit (passed p kind payload) cs (bytes-right (chunkBytes (chunkOf kind payload)) _ y) (omega arith) (omega arith) (omega arith) (omega arith),
+    )

@@ -65,7 +65,7 @@ totalsOf cs =
       blocks = blocks cs;
       samples = samples cs;
       trailer = 316 + length (chunksBytes cs);
-      paired = passes (interleave (chunkTags cs))
+      paired = passes (interleave (chunkTags cs));
     }
 
 -- Demand 3 for the check: it accepts exactly the files of the grammar, and its totals are the drain's
