@@ -1,25 +1,28 @@
 -- The index of a finished recording: a record for each chunk, written and read back. Assumes nothing.
 use mathlib.Core.Path.{_≡_, refl, sym, ap, ap₂, _∙_}
-use mathlib.Core.Bool.{true}
+use mathlib.Core.Bool.{Bool, true, false}
 use mathlib.Core.List.{List, [], _∷_, _++_, append-assoc, append-nil}
 use Prim.Native.Nat.{ℕ, _+_, _*_, _/_, _^_, _<_, min}
 use native.Mathlib.Nat.{add-zero}
 use native.Mathlib.Omega.{arith}
 use borrow.Author.Tests.{le-leb}
-use lib.ListN.{length, length-append}
-use Rattle.error.specs.Answer.{accepted}
+use lib.Dec.{leb}
+use lib.Seq.{take-at}
+use lib.ListN.{length, take, length-append}
+use Rattle.error.specs.Answer.{Answer, accepted, refused, ask, andThen}
 use Rattle.fields.specs.File.{fileLimit}
-use Rattle.fields.specs.Le.{Bytes}
+use Rattle.fields.specs.Le.{Bytes, put}
 use Rattle.demuxer.specs.Position.{start}
 use Rattle.demuxer.specs.declared.position.Position.{Position}
 use Rattle.chunk_index.specs.Walk.{Kind, frame, sound, walk, past}
 use Rattle.chunk_index.specs.Chunks.{Chunk, chunkOf, chunkBytes, chunksBytes, trailerBytes, walkOf}
 use Rattle.chunk_index.specs.Entry.{entry, entryBytes, Small, tableBytes, entriesFrom, entriesOf}
-use Rattle.chunk_index.specs.Index.{recorded, records, tagsKnown, fileWalk, indexOf}
+use Rattle.chunk_index.specs.Index.{Built, builtFrom, buildOf, recorded, records, tagsKnown, fileWalk, indexOf}
 use Rattle.chunk_index.specs.declared.entry.ChunkIndexEntry.{ChunkIndexEntry}
 use Rattle.chunk_index.proofs.Chunked.{tag-held, chunks-walked}
 use Rattle.chunk_index.proofs.Entries.{entry-back, length-entryBytes}
 use Rattle.recording.specs.Grammar.{Finished}
+use Rattle.recording.specs.Machine.{OwnIndex}
 use Rattle.recording.proofs.Positions.{passed, Bounded, stepped, length-chunk, bytes-right, bytes-payload}
 
 -- the records of chunks from a position on
@@ -102,3 +105,28 @@ marks-fit p (chunkOf kind payload ∷ cs) y a b c d =
       record { tag-fits = tag-held kind; small = record { cursor-small = omega arith; frames-small = omega arith; blocks-small = omega arith }; samples-fit = omega arith },
       marks-fit (passed p kind payload) cs (bytes-right (chunkBytes (chunkOf kind payload)) _ y) (omega arith) (omega arith) (omega arith) (omega arith),
     )
+
+-- ---- what `build_chunk_index` writes is the file's own index
+
+abbrev builtAs : List ℕ → Bool → List ChunkIndexEntry → Built
+builtAs table t es = builtFrom table (ask t 40 0 (accepted es))
+
+built-room : (file table : List ℕ) (n : ℕ) (es : List ChunkIndexEntry) (t : Bool) → indexOf file ≡ accepted es → builtAs table t es .answer ≡ accepted n
+    → OwnIndex file (take (24 * n) (builtAs table t es .table))
+unfolding put
+built-room file table n es true e a =
+    let m : length es ≡ n = cc in
+    record { entries = es; indexed = e; is = take-at (tableBytes es) _ (24 * n) (omega (arith, length-table es)) }
+built-room file table n es false e a = let z : _≡_ {A = ℕ} 0 1 = cc in absurd (omega arith)
+
+pub built-own : (file table : List ℕ) (n : ℕ) → buildOf file table .answer ≡ accepted n → OwnIndex file (take (24 * n) (buildOf file table .table))
+unfolding buildOf
+built-own file table n a = go _ refl a
+  where
+    room : List ChunkIndexEntry → Answer (List ChunkIndexEntry)
+    room es = ask (leb (24 * length es) (length table)) 40 0 (accepted es)
+
+    go : (x : Answer (List ChunkIndexEntry)) → indexOf file ≡ x → builtFrom table (andThen x room) .answer ≡ accepted n
+        → OwnIndex file (take (24 * n) (builtFrom table (andThen x room) .table))
+    go (accepted es) e a = built-room file table n es (leb (24 * length es) (length table)) e a
+    go (refused r) e a = let z : _≡_ {A = ℕ} 0 1 = cc in absurd (omega arith)
