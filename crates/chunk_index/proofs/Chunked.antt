@@ -21,7 +21,7 @@ abbrev headOf : Kind → ℕ → Head
 headOf frame size = head.Video size
 headOf sound size = head.Audio size
 
-tag-held : (kind : Kind) → kindTag kind < 256 ^ 4
+pub tag-held : (kind : Kind) → kindTag kind < 256 ^ 4
 tag-held frame = omega arith
 tag-held sound = omega arith
 
@@ -29,7 +29,7 @@ tag-head : (kind : Kind) (size : ℕ) → chunkHead (kindTag kind) size ≡ head
 tag-head frame size = refl
 tag-head sound size = refl
 
-tag-no-trailer : (kind : Kind) (size : ℕ) → isTrailer (kindTag kind) size ≡ false
+pub tag-no-trailer : (kind : Kind) (size : ℕ) → isTrailer (kindTag kind) size ≡ false
 tag-no-trailer frame size = refl
 tag-no-trailer sound size = refl
 

@@ -1,0 +1,139 @@
+-- What a seek finds among the records of a finished recording. Assumes nothing.
+use mathlib.Core.Path.{_≡_, refl, ap}
+use mathlib.Core.Bool.{Bool, true, false, cond, _&&_}
+use mathlib.Core.List.{List, [], _∷_}
+use mathlib.Core.Option.{none, some}
+use Prim.Native.Nat.{ℕ, zero, suc, _+_, _*_, _≤_, _<_, suc-le-suc}
+use native.Mathlib.Nat.{zero-lt-suc}
+use native.Mathlib.Omega.{arith}
+use borrow.Author.Tests.{lt-ltb}
+use lib.Dec.{eqb}
+use lib.IntN.{ℤ, pos}
+use lib.ListN.{length, getElem?, length-append}
+use lib.Signed.{leZ}
+use Rattle.error.specs.Answer.{accepted}
+use Rattle.fields.specs.Le.{Bytes}
+use Rattle.demuxer.specs.Packet.{Shown}
+use Rattle.demuxer.specs.Position.{countLimit, InRange}
+use Rattle.demuxer.specs.declared.position.Position.{Position}
+use Rattle.chunk_index.specs.Walk.{Kind, frame, sound}
+use Rattle.chunk_index.specs.Chunks.{Chunk, chunkOf, chunkBytes, chunksBytes}
+use Rattle.chunk_index.specs.Entry.{entry}
+use Rattle.seek.specs.Seek.{stampOf, goodEntry, goodEntries, reaches, find, beyond, pastLast}
+use Rattle.recording.specs.Drain.{drainFrom}
+use Rattle.recording.specs.Machine.{first}
+use Rattle.recording.proofs.Positions.{passed, shownAt, positionAt, drainAt, drain-cons, stepped, length-chunk, bytes-right, bytes-payload}
+use Rattle.recording.proofs.Tables.{marks}
+
+-- the machine's test of a packet
+abbrev pub meets : ℕ → ℤ → Shown → Bool
+meets stream request p = eqb (p .stream) stream && leZ request (pos (p .stamp))
+
+-- the test of the record and of the packet are one
+test-same : (stream : ℕ) (request : ℤ) (p : Position) (kind : Kind) (payload : List ℕ) → stream ≤ 1
+    → reaches stream request (entry kind p) ≡ meets stream request (shownAt p kind payload)
+test-same zero request p frame payload h = refl
+test-same zero request p sound payload h = refl
+test-same (suc zero) request p frame payload h = refl
+test-same (suc zero) request p sound payload h = refl
+test-same (suc (suc n)) request p kind payload h = absurd (omega arith)
+
+-- and a packet that meets it has the stream's stamp
+same-stamp : (stream : ℕ) (request : ℤ) (p : Position) (kind : Kind) (payload : List ℕ) → stream ≤ 1
+    → meets stream request (shownAt p kind payload) ≡ true → shownAt p kind payload .stamp ≡ stampOf stream p
+same-stamp zero request p frame payload h t = refl
+same-stamp zero request p sound payload h t = let z : _≡_ {A = ℕ} 0 1 = cc in absurd (omega arith)
+same-stamp (suc zero) request p frame payload h t = let z : _≡_ {A = ℕ} 0 1 = cc in absurd (omega arith)
+same-stamp (suc zero) request p sound payload h t = refl
+same-stamp (suc (suc n)) request p kind payload h t = absurd (omega arith)
+
+first-cons : (stream : ℕ) (request : ℤ) (p : Position) (kind : Kind) (payload : List ℕ) (cs : List Chunk)
+    → first stream request (drainAt p (chunkOf kind payload ∷ cs))
+    ≡ cond (meets stream request (shownAt p kind payload)) 0 (suc (first stream request (drainAt (passed p kind payload) cs)))
+unfolding first
+first-cons stream request p kind payload cs = rw drain-cons
+
+-- chunk num is the first that meets the request
+pub record Hit (stream : ℕ) (request : ℤ) (p : Position) (cs : List Chunk) : Type 0 where
+  pub num : ℕ
+  pub shown : Shown
+  pub at : Position
+  pub first-is : first stream request (drainAt p cs) ≡ num
+  pub inside : num < length cs
+  pub found : find stream request (marks p cs) ≡ some at
+  pub at-is : at ≡ positionAt p num cs
+  pub shown-is : getElem? (drainAt p cs) num ≡ some shown
+  pub stamp-is : shown .stamp ≡ stampOf stream at
+
+pub data Finds (stream : ℕ) (request : ℤ) (p : Position) (cs : List Chunk) : Type 0 where
+  hit : Hit stream request p cs → Finds stream request p cs
+  miss : find stream request (marks p cs) ≡ none → first stream request (drainAt p cs) ≡ length cs → Finds stream request p cs
+
+pub finds : (stream : ℕ) (request : ℤ) (p : Position) (cs : List Chunk) → stream ≤ 1 → Finds stream request p cs
+unfolding find positionAt marks
+finds stream request p [] h = unfold drainFrom first in (miss refl refl)
+finds stream request p (chunkOf kind payload ∷ cs) h = go _ refl (finds stream request (passed p kind payload) cs h)
+  where
+    go : (t : Bool) → meets stream request (shownAt p kind payload) ≡ t → Finds stream request (passed p kind payload) cs
+        → Finds stream request p (chunkOf kind payload ∷ cs)
+    go true t f =
+        hit (record {
+          num = 0;
+          shown = shownAt p kind payload;
+          at = p;
+          first-is = rw (first-cons stream request p kind payload cs, t);
+          inside = zero-lt-suc (length cs);
+          found = rw (test-same stream request p kind payload h, t);
+          at-is = refl;
+          shown-is = rw drain-cons;
+          stamp-is = same-stamp stream request p kind payload h t;
+        })
+    go false t (hit f) =
+        hit (record {
+          num = suc (f .num);
+          shown = f .shown;
+          at = f .at;
+          first-is = rw (first-cons stream request p kind payload cs, t) (ap suc (f .first-is));
+          inside = suc-le-suc (f .inside);
+          found = rw (test-same stream request p kind payload h, t) (f .found);
+          at-is = f .at-is;
+          shown-is = rw drain-cons (f .shown-is);
+          stamp-is = f .stamp-is;
+        })
+    go false t (miss a b) = miss (rw (test-same stream request p kind payload h, t) a) (rw (first-cons stream request p kind payload cs, t) (ap suc b))
+
+-- ---- every record is good
+
+good-mark : (p : Position) (kind : Kind) → p .samples .0 < countLimit → goodEntry (entry kind p) ≡ true
+good-mark p frame h = lt-ltb (p .samples .0) countLimit h
+good-mark p sound h = lt-ltb (p .samples .0) countLimit h
+
+pub all-good : (place : ℕ) (p : Position) (cs : List Chunk) → Bytes (chunksBytes cs)
+    → p .samples .0 + 268435456 * length (chunksBytes cs) < countLimit → goodEntries place (marks p cs) ≡ accepted tt
+unfolding goodEntries marks chunksBytes
+all-good place p [] y h = refl
+all-good place p (chunkOf kind payload ∷ cs) y h =
+    let l = length-append (chunkBytes (chunkOf kind payload)) (chunksBytes cs) in
+    let m = length-chunk kind payload in
+    let t = stepped p kind payload (bytes-payload kind payload _ y) in
+    rw (good-mark p kind (omega arith)) (all-good (place + 24) (passed p kind payload) cs (bytes-right (chunkBytes (chunkOf kind payload)) _ y) (omega arith))
+
+-- ---- the position that a seek to the end leaves is in range
+
+beyond-range : (p : Position) (kind : Kind) → p .cursor + 8 ≤ countLimit → p .frames .0 < countLimit → p .samples .0 ≤ countLimit → p .blocks .0 < countLimit
+    → InRange (beyond (entry kind p))
+beyond-range p frame a b c d = record { cursor-in = a; frames-in = omega arith; samples-in = c; blocks-in = omega arith }
+beyond-range p sound a b c d = record { cursor-in = a; frames-in = omega arith; samples-in = c; blocks-in = omega arith }
+
+pub last-range : (q p : Position) (cs : List Chunk) → Bytes (chunksBytes cs) → InRange q
+    → p .cursor + length (chunksBytes cs) + 8 ≤ countLimit → 8 * p .frames .0 + length (chunksBytes cs) < countLimit
+    → p .samples .0 + 268435456 * length (chunksBytes cs) ≤ countLimit → 8 * p .blocks .0 + length (chunksBytes cs) < countLimit
+    → InRange (pastLast q (marks p cs))
+unfolding pastLast marks chunksBytes
+last-range q p [] y r a b c d = r
+last-range q p (chunkOf kind payload ∷ cs) y r a b c d =
+    let l = length-append (chunkBytes (chunkOf kind payload)) (chunksBytes cs) in
+    let m = length-chunk kind payload in
+    let t = stepped p kind payload (bytes-payload kind payload _ y) in
+    last-range (beyond (entry kind p)) (passed p kind payload) cs (bytes-right (chunkBytes (chunkOf kind payload)) _ y)
+    (beyond-range p kind (omega arith) (omega arith) (omega arith) (omega arith)) (omega arith) (omega arith) (omega arith) (omega arith)
