@@ -100,14 +100,19 @@ put-packet xs off stream payload h p q r =
 
 -- ---- what an accepted run has passed
 
-pub header-passed : (w : Writer) (room : ℕ) → headerQuestions w room ≡ accepted tt → 316 ≤ room
+pub record HeaderPassed (w : Writer) (room : ℕ) : Type 0 where
+  pub fresh : w .begun ≡ false
+  pub going : w .ended ≡ false
+  pub inside : 316 ≤ room
+
+pub header-passed : (w : Writer) (room : ℕ) → headerQuestions w room ≡ accepted tt → HeaderPassed w room
 unfolding headerQuestions
 header-passed w room h =
     let a = ask-passed (not (w .begun)) 50 (w .written) _ h in
     let b = ask-passed (not (w .ended)) 55 (w .written) _ (a .1) in
     let c = ask-passed (hasPrelude w) 56 (w .written) _ (b .1) in
     let d = ask-passed (fits 316 room) 54 (w .written) _ (c .1) in
-    fits-ends 316 room (d .0) .0
+    record { fresh = not-true (w .begun) (a .0); going = not-true (w .ended) (b .0); inside = fits-ends 316 room (d .0) .0 }
 
 -- a writer that takes packets
 pub record Open (w : Writer) : Type 0 where

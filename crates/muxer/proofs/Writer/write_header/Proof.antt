@@ -29,7 +29,7 @@ enum-told c = search needs
 -- src/lib.rt:261:17
 put-prelude-requires : tie.Need-put-prelude-requires
 put-prelude-requires c κs = let a = c .before .before .before .before .before .before .args in
-    steps.header-passed (a .self) _ (sym (c .before .before .before .before .ask-header .ensures) ∙ ap said (c .before .before .enum-told .given .1))
+    steps.header-passed (a .self) _ (sym (c .before .before .before .before .ask-header .ensures) ∙ ap said (c .before .before .enum-told .given .1)) .inside
 
 -- src/lib.rt:263:21
 after-header-requires : tie.Need-after-header-requires
