@@ -75,7 +75,7 @@ take-put-inside xs off ys n h l =
     let right : drop k (take n xs) ≡ take m (drop k xs) =
     ap (λ (i : ℕ). drop k (take i xs)) q ∙ drop-take k m xs (omega arith) in
     let front : take off (take n xs) ≡ take off xs = take-take off n xs (omega arith) in
-    rw (front, right, ← append-assoc, ← append-assoc) left
+    rw (front, right, ← append-assoc (take off xs) ys (drop k xs), ← append-assoc (take off xs) ys (take m (drop k xs))) left
 
 take-cond : (b : Bool) (n : ℕ) (xs ys : List ℕ) → take n (cond b xs ys) ≡ cond b (take n xs) (take n ys)
 take-cond true n xs ys = refl
@@ -94,6 +94,7 @@ length-patch w xs h = go (ltb 0 (w .settings .fps) && ltb 0 (w .frames))
   where
     v : List ℕ
     v = leBytes 4 (packedOf (runLength (w .frames) (w .settings .fps)))
+
     go : (b : Bool) → length (cond b (put xs 84 v) xs) ≡ length xs
     go true = let l : length v ≡ 4 = length-leBytes 4 (packedOf (runLength (w .frames) (w .settings .fps))) in length-put xs 84 v (omega arith)
     go false = refl
@@ -178,8 +179,8 @@ module _ (w : Writer) (payload : List ℕ) (stream : ℕ) (buf : List ℕ) where
       let l = length-packet stream payload in
       outcome-length (packetQuestions w (length payload) stream (length buf)) w buf _ _
       (λ e.
-        let i = packet-passed w (length payload) stream (length buf) e .inside in
-        length-put buf (w .written) (packetBytes stream payload) (omega arith))
+      let i = packet-passed w (length payload) stream (length buf) e .inside in
+      length-put buf (w .written) (packetBytes stream payload) (omega arith))
 
 -- ---- the trailer
 
@@ -206,8 +207,8 @@ module _ (w : Writer) (buf : List ℕ) where
         passed = p;
         writer = o .1;
         file = rw (o .1, o .2)
-          (take-patch w (put buf (w .written) trailerBytes) (w .written + 8) (omega arith) (omega arith)
-          ∙ ap (λ (xs : List ℕ). patchRunLength w xs) (take-put buf (w .written) trailerBytes (w .written + 8) (omega arith) refl));
+            (take-patch w (put buf (w .written) trailerBytes) (w .written + 8) (omega arith) (omega arith)
+            ∙ ap (λ (xs : List ℕ). patchRunLength w xs) (take-put buf (w .written) trailerBytes (w .written + 8) (omega arith) refl));
       }
 
   pub trailer-length : length (trailerCall w buf .buffer) ≡ length buf
@@ -215,8 +216,8 @@ module _ (w : Writer) (buf : List ℕ) where
   trailer-length =
       outcome-length (trailerQuestions w (length buf)) w buf _ _
       (λ e.
-        let p = trailer-passed w (length buf) e in
-        let h = p .ready .prelude in
-        let i = p .inside in
-        let l : length (put buf (w .written) trailerBytes) ≡ length buf = length-put buf (w .written) trailerBytes (omega arith) in
-        length-patch w (put buf (w .written) trailerBytes) (omega arith) ∙ l)
+      let p = trailer-passed w (length buf) e in
+      let h = p .ready .prelude in
+      let i = p .inside in
+      let l : length (put buf (w .written) trailerBytes) ≡ length buf = length-put buf (w .written) trailerBytes (omega arith) in
+      length-patch w (put buf (w .written) trailerBytes) (omega arith) ∙ l)

@@ -9,6 +9,8 @@ use Rattle.chunk.specs.Chunk.{videoTag, audioTag}
 use Rattle.duration.specs.Duration.{packedOf, runLength}
 use Rattle.error.specs.Answer.{Answer, accepted, refused, ask}
 use Rattle.error.specs.Refusal.{said}
+use Rattle.error.specs.declared.AmvError.{AmvError}
+use Rattle.error.specs.declared.AmvResult.the-variants.{Err}
 use Rattle.fields.specs.File.{fileLimit}
 use Rattle.fields.specs.Le.{leBytes, put}
 use Rattle.prelude.specs.Built.{preludeBytes}
@@ -137,3 +139,7 @@ pub record Meets (o : Outcome) (r : Wrote) (after : List ℕ) : Type 0 where
   pub answer : said (r .result) ≡ o .answer
   pub writer : r .writer ≡ o .writer
   pub buffer : after ≡ o .buffer
+
+-- what a refused call gives
+abbrev pub givenBack : Writer → AmvError → Wrote
+givenBack w e = record { result = Err e; writer = w }

@@ -13,7 +13,7 @@ ghost use Rattle.error.specs.Answer.{accepted};
 ghost use Rattle.error.specs.Refusal.{said};
 ghost use Rattle.fields.specs.Le.{put};
 ghost use Rattle.prelude.specs.Built.{preludeBytes};
-ghost use Rattle.muxer.specs.Writer.{fresh, fits, streamTag, framesAfter, packetBytes, trailerBytes, patchRunLength, askOpen, headerQuestions, packetQuestions, trailerQuestions, afterHeader, afterPacket, afterTrailer, headerCall, packetCall, trailerCall, Meets};
+ghost use Rattle.muxer.specs.Writer.{fresh, fits, streamTag, framesAfter, packetBytes, trailerBytes, patchRunLength, askOpen, headerQuestions, packetQuestions, trailerQuestions, afterHeader, afterPacket, afterTrailer, headerCall, packetCall, trailerCall, Meets, givenBack};
 
 pub struct Settings {
     pub width: u32,
@@ -61,6 +61,21 @@ fn stream_tag(stream: u32) -> u32
     }
 }
 
+// A packet's length in the file: a tag, a size, the payload and no padding.
+fn packet_len(size: usize) -> u64
+    requires { ⌜ size ≤ 4294967295 ⌝ }
+    ensures { λ r. ⌜ r ≡ 8 + size ⌝ }
+{
+    8 + size as u64
+}
+
+fn payload_size(payload: &[u8]) -> u32
+    requires { ⌜ length (now payload) ≤ 4294967295 ⌝ }
+    ensures { λ r. ⌜ r ≡ length (now (payload .entry)) ⌝ }
+{
+    payload.len() as u32
+}
+
 // A frame counts one, up to the largest u64.
 fn frames_after(stream: u32, frames: u64) -> u64
     ensures { λ r. ⌜ r ≡ framesAfter stream frames ⌝ }
@@ -89,7 +104,7 @@ fn put_packet(buf: &mut [u8], off: usize, payload: &[u8], stream: u32)
     ensures { λ _. ⌜ now (buf .exit) ≡ put (now (buf .entry)) off (packetBytes stream (now (payload .entry))) ⌝ }
 {
     fields::write_u32_le(buf, off, stream_tag(stream));
-    fields::write_u32_le(buf, off + 4, payload.len() as u32);
+    fields::write_u32_le(buf, off + 4, payload_size(payload));
     copy_in(buf, off + 8, payload);
 }
 
@@ -176,7 +191,7 @@ impl Writer {
         if stream > 1 {
             return AmvResult::Err(AmvError::PacketOfNoStream(self.written));
         }
-        if has_room(room, self.written, 8 + size as u64) {
+        if has_room(room, self.written, packet_len(size)) {
             AmvResult::Ok
         } else {
             AmvResult::Err(AmvError::NoRoom(self.written))
@@ -218,7 +233,7 @@ impl Writer {
             settings,
             begun: self.begun,
             ended: self.ended,
-            written: self.written + (8 + size as u64),
+            written: self.written + packet_len(size),
             frames: frames_after(stream, self.frames),
         }
     }
@@ -254,17 +269,22 @@ impl Writer {
         fields::write_u32_le(buf, 84, run_length.to_packed());
     }
 
+    // A refusal gives the state back.
+    fn refused(self, e: AmvError) -> Wrote
+        ensures { λ r. ⌜ r ≡ givenBack self e ⌝ }
+    {
+        let result = AmvResult::Err(e);
+        Wrote {
+            result,
+            writer: self,
+        }
+    }
+
     pub fn write_header(self, buf: &mut [u8]) -> Wrote
         ensures { λ r. ⌜ Meets (headerCall self (now (buf .entry))) r (now (buf .exit)) ⌝ }
     {
         match self.ask_header(buf.len()) {
-            AmvResult::Err(e) => {
-                let result = AmvResult::Err(e);
-                Wrote {
-                    result,
-                    writer: self,
-                }
-            }
+            AmvResult::Err(e) => self.refused(e),
             AmvResult::Ok => {
                 let settings = self.settings;
                 settings.put_prelude(buf);
@@ -279,13 +299,7 @@ impl Writer {
         ensures { λ r. ⌜ Meets (packetCall self (now (payload .entry)) stream (now (buf .entry))) r (now (buf .exit)) ⌝ }
     {
         match self.ask_packet(payload.len(), stream, buf.len()) {
-            AmvResult::Err(e) => {
-                let result = AmvResult::Err(e);
-                Wrote {
-                    result,
-                    writer: self,
-                }
-            }
+            AmvResult::Err(e) => self.refused(e),
             AmvResult::Ok => {
                 put_packet(buf, self.written as usize, payload, stream);
                 let result = AmvResult::Ok;
@@ -299,13 +313,7 @@ impl Writer {
         ensures { λ r. ⌜ Meets (trailerCall self (now (buf .entry))) r (now (buf .exit)) ⌝ }
     {
         match self.ask_trailer(buf.len()) {
-            AmvResult::Err(e) => {
-                let result = AmvResult::Err(e);
-                Wrote {
-                    result,
-                    writer: self,
-                }
-            }
+            AmvResult::Err(e) => self.refused(e),
             AmvResult::Ok => {
                 put_trailer(buf, self.written as usize);
                 self.patch_run_length(buf);

@@ -1,6 +1,7 @@
-use mathlib.Core.Path.{sym, _∙_}
+use mathlib.Core.Path.{sym, ap, _∙_}
+use Prim.Native.Nat.{ℕ, _+_}
 use borrow.Author.Tests.{le-leb, lt-leb}
-use Rattle.muxer.specs.Writer.{packetQuestions}
+use Rattle.muxer.specs.Writer.{fits, packetQuestions}
 use Rattle.muxer.proofs.Steps.{open-ok, open-err}
 use borrow.Author.Needs.{needs}
 use Rattle.muxer.proofs.Writer.ask_packet.Statement.{statement}
@@ -9,16 +10,17 @@ use Rattle.muxer.proofs.Writer.ask_packet.Reads as reads
 use Rattle.muxer.proofs.Writer.ask_packet.Lts as lts
 use Rattle.muxer.proofs.Writer.ask_open.Reads as ask-open-reads
 use Rattle.muxer.proofs.has_room.Reads as has-room-reads
+use Rattle.muxer.proofs.packet_len.Reads as packet-len-reads
 
--- src/lib.rt:164:36
+-- src/lib.rt:185:36
 ask-open-requires : tie.Need-ask-open-requires
 ask-open-requires c κs = search needs
 
--- src/lib.rt:164:31
+-- src/lib.rt:185:31
 enum-known-e : tie.Need-enum-known-e
 enum-known-e c = search needs
 
--- src/lib.rt:165:13
+-- src/lib.rt:186:13
 returns : tie.Need-returns
 unfolding packetQuestions
 returns c = sym (open-err (c .before .before .before .before .args .self) _ (c .before .before .before .ask-open .ensures) (c .before .e .given .1))
@@ -26,41 +28,49 @@ returns c = sym (open-err (c .before .before .before .before .args .self) _ (c .
 enum-told : tie.Need-enum-told
 enum-told c = search needs
 
--- src/lib.rt:168:13
+-- src/lib.rt:189:13
 returns-2 : tie.Need-returns-2
 unfolding packetQuestions
 returns-2 c = let a = c .before .before .before .before .args in
     sym (open-ok (a .self) _ (c .before .before .before .ask-open .ensures) (c .before .enum-told .given .1)
     ∙ rw (lt-leb (a .size) 4294967295 (c .if1 .taken)))
 
--- src/lib.rt:171:13
+-- src/lib.rt:192:13
 returns-3 : tie.Need-returns-3
 unfolding packetQuestions
 returns-3 c = let a = c .before .before .before .before .before .args in
     sym (open-ok (a .self) _ (c .before .before .before .before .ask-open .ensures) (c .before .before .enum-told .given .1)
     ∙ rw (le-leb (a .size) 4294967295 (c .before .if1 .left), lt-leb (a .stream) 1 (c .if2 .taken)))
 
--- src/lib.rt:173:41
-add-has-room : tie.Need-add-has-room
-add-has-room c = search needs
+-- src/lib.rt:194:41
+packet-len-requires : tie.Need-packet-len-requires
+packet-len-requires c κs = search needs
 
--- src/lib.rt:173:12
+-- src/lib.rt:194:12
 has-room-requires : tie.Need-has-room-requires
 has-room-requires c κs = search needs
 
--- src/lib.rt:161:5
+-- src/lib.rt:182:5
 returns-4 : tie.Need-returns-4
 unfolding packetQuestions
-returns-4 c = let a = c .before .before .before .before .before .before .before .args in
-    sym (open-ok (a .self) _ (c .before .before .before .before .before .before .ask-open .ensures) (c .before .before .before .before .enum-told .given .1)
-    ∙ rw (le-leb (a .size) 4294967295 (c .before .before .before .if1 .left), le-leb (a .stream) 1 (c .before .before .if2 .left), sym (c .before .has-room .ensures) ∙ c .if3 .taken))
+returns-4 c = let a = c .before .before .before .before .before .before .before .before .args in
+    sym (open-ok (a .self) _ (c .before .before .before .before .before .before .before .ask-open .ensures) (c .before .before .before .before .before .enum-told .given .1)
+    ∙ rw (
+      le-leb (a .size) 4294967295 (c .before .before .before .before .if1 .left),
+      le-leb (a .stream) 1 (c .before .before .before .if2 .left),
+      ap (λ (n : ℕ). fits (a .self .written + n) (a .room)) (sym (c .before .before .packet-len .ensures)) ∙ sym (c .before .has-room .ensures) ∙ c .if3 .taken,
+    ))
 
--- src/lib.rt:161:5
+-- src/lib.rt:182:5
 returns-5 : tie.Need-returns-5
 unfolding packetQuestions
-returns-5 c = let a = c .before .before .before .before .before .before .before .args in
-    sym (open-ok (a .self) _ (c .before .before .before .before .before .before .ask-open .ensures) (c .before .before .before .before .enum-told .given .1)
-    ∙ rw (le-leb (a .size) 4294967295 (c .before .before .before .if1 .left), le-leb (a .stream) 1 (c .before .before .if2 .left), sym (c .before .has-room .ensures) ∙ c .if3 .left))
+returns-5 c = let a = c .before .before .before .before .before .before .before .before .args in
+    sym (open-ok (a .self) _ (c .before .before .before .before .before .before .before .ask-open .ensures) (c .before .before .before .before .before .enum-told .given .1)
+    ∙ rw (
+      le-leb (a .size) 4294967295 (c .before .before .before .before .if1 .left),
+      le-leb (a .stream) 1 (c .before .before .before .if2 .left),
+      ap (λ (n : ℕ). fits (a .self .written + n) (a .room)) (sym (c .before .before .packet-len .ensures)) ∙ sym (c .before .has-room .ensures) ∙ c .if3 .left,
+    ))
 
 pub ask-packet-spec : {M : Type 1} → statement M
 ask-packet-spec =
@@ -72,7 +82,7 @@ ask-packet-spec =
     enum-told
     returns-2
     returns-3
-    add-has-room
+    packet-len-requires
     has-room-requires
     returns-4
     returns-5)

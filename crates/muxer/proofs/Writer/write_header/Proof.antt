@@ -1,8 +1,3 @@
-use mathlib.Core.Path.{_≡_, sym, ap, _∙_}
-use Prim.Native.Nat.{ℕ}
-use mathlib.Core.List.{List}
-use Rattle.error.specs.Refusal.{said}
-use native.Mathlib.Omega.{arith}
 use Rattle.muxer.specs.Writer.{headerCall}
 use Rattle.muxer.proofs.Steps as steps
 use borrow.Author.Needs.{needs}
@@ -13,43 +8,49 @@ use Rattle.muxer.proofs.Writer.write_header.Lts as lts
 use Rattle.muxer.proofs.Settings.put_prelude.Reads as put-prelude-reads
 use Rattle.muxer.proofs.Writer.after_header.Reads as after-header-reads
 use Rattle.muxer.proofs.Writer.ask_header.Reads as ask-header-reads
+use Rattle.muxer.proofs.Writer.refused.Reads as refused-reads
 
--- src/lib.rt:254:15
+-- src/lib.rt:283:15
 ask-header-requires : tie.Need-ask-header-requires
 ask-header-requires c κs = search needs
 
--- src/lib.rt:255:28
+-- src/lib.rt:284:28
 enum-known-e : tie.Need-enum-known-e
 enum-known-e c = search needs
 
--- src/lib.rt:260:21
+-- src/lib.rt:284:34
+refused-requires : tie.Need-refused-requires
+refused-requires c κs = search needs
+
+-- src/lib.rt:286:21
 enum-told : tie.Need-enum-told
 enum-told c = search needs
 
--- src/lib.rt:261:17
+-- src/lib.rt:287:17
 put-prelude-requires : tie.Need-put-prelude-requires
 put-prelude-requires c κs = let a = c .before .before .before .before .before .before .args in
-    steps.header-passed (a .self) _ (sym (c .before .before .before .before .ask-header .ensures) ∙ ap said (c .before .before .enum-told .given .1)) .inside
+    steps.header-passed (a .self) _ (steps.told-ok (c .before .before .before .before .ask-header .ensures) (c .before .before .enum-told .given .1)) .inside
 
--- src/lib.rt:263:21
+-- src/lib.rt:289:21
 after-header-requires : tie.Need-after-header-requires
 after-header-requires c κs = search needs
 
--- src/lib.rt:251:5
+-- src/lib.rt:280:5
 returns : tie.Need-returns
 unfolding headerCall
-returns c = let a = c .before .before .before .before .before .args in
-    steps.meets-err (a .self) (a .buf .now) _ _ (c .before .before .before .ask-header .ensures) (c .before .e .given .1)
+returns c = let a = c .before .before .before .before .before .before .args in
+    steps.meets-err (a .self) (a .buf .now) _ _ (c .before .before .before .before .ask-header .ensures) (c .before .before .e .given .1) (c .refused .ensures)
 
--- src/lib.rt:251:5
+-- src/lib.rt:280:5
 same-length : tie.Need-same-length
 same-length c = search needs
 
--- src/lib.rt:251:5
+-- src/lib.rt:280:5
 returns-2 : tie.Need-returns-2
 unfolding headerCall
 returns-2 c = let a = c .before .before .before .before .before .before .before .before .before .before .args in
-    steps.meets-ok (a .self) (a .buf .now) _ _ (c .before .before .before .before .before .before .before .before .ask-header .ensures) (c .before .before .before .before .before .before .enum-told .given .1)
+    steps.meets-ok (a .self) (a .buf .now) _ _
+    (c .before .before .before .before .before .before .before .before .ask-header .ensures) (c .before .before .before .before .before .before .enum-told .given .1)
     (c .after-header .ensures) (c .before .before .before .put-prelude .ensures)
 
 pub write-header-spec : {M : Type 1} → statement M
@@ -58,6 +59,7 @@ write-header-spec =
     (tie.spec
     ask-header-requires
     enum-known-e
+    refused-requires
     enum-told
     put-prelude-requires
     after-header-requires

@@ -1,8 +1,3 @@
-use mathlib.Core.Path.{_≡_, sym, ap, _∙_}
-use Prim.Native.Nat.{ℕ}
-use mathlib.Core.List.{List}
-use Rattle.error.specs.Refusal.{said}
-use native.Mathlib.Omega.{arith}
 use Rattle.muxer.specs.Writer.{packetCall}
 use Rattle.muxer.proofs.Steps as steps
 use borrow.Author.Needs.{needs}
@@ -12,46 +7,53 @@ use Rattle.muxer.proofs.Writer.write_packet.Reads as reads
 use Rattle.muxer.proofs.Writer.write_packet.Lts as lts
 use Rattle.muxer.proofs.Writer.after_packet.Reads as after-packet-reads
 use Rattle.muxer.proofs.Writer.ask_packet.Reads as ask-packet-reads
+use Rattle.muxer.proofs.Writer.refused.Reads as refused-reads
 use Rattle.muxer.proofs.put_packet.Reads as put-packet-reads
 
--- src/lib.rt:272:15
+-- src/lib.rt:298:15
 ask-packet-requires : tie.Need-ask-packet-requires
 ask-packet-requires c κs = search needs
 
--- src/lib.rt:273:28
+-- src/lib.rt:299:28
 enum-known-e : tie.Need-enum-known-e
 enum-known-e c = search needs
 
--- src/lib.rt:278:28
+-- src/lib.rt:299:34
+refused-requires : tie.Need-refused-requires
+refused-requires c κs = search needs
+
+-- src/lib.rt:301:28
 enum-told : tie.Need-enum-told
 enum-told c = search needs
 
--- src/lib.rt:278:17
+-- src/lib.rt:301:17
 put-packet-requires : tie.Need-put-packet-requires
 put-packet-requires c κs = let a = c .before .before .before .before .before .before .args in
-    let p = steps.packet-passed (a .self) _ (a .stream) _ (sym (c .before .before .before .ask-packet .ensures) ∙ ap said (c .before .enum-told .given .1)) in
+    let p = steps.packet-passed (a .self) _ (a .stream) _ (steps.told-ok (c .before .before .before .ask-packet .ensures) (c .before .enum-told .given .1)) in
     (p .inside, p .short)
 
--- src/lib.rt:280:21
+-- src/lib.rt:303:21
 after-packet-requires : tie.Need-after-packet-requires
 after-packet-requires c κs = let a = c .before .before .before .before .before .before .before .before .before .args in
-    steps.packet-passed (a .self) _ (a .stream) _ (sym (c .before .before .before .before .before .before .ask-packet .ensures) ∙ ap said (c .before .before .before .before .enum-told .given .1)) .limit
+    steps.packet-passed (a .self) _ (a .stream) _
+    (steps.told-ok (c .before .before .before .before .before .before .ask-packet .ensures) (c .before .before .before .before .enum-told .given .1)) .limit
 
--- src/lib.rt:269:5
+-- src/lib.rt:295:5
 returns : tie.Need-returns
 unfolding packetCall
-returns c = let a = c .before .before .before .before .before .before .args in
-    steps.meets-err (a .self) (a .buf .now) _ _ (c .before .before .before .ask-packet .ensures) (c .before .e .given .1)
+returns c = let a = c .before .before .before .before .before .before .before .args in
+    steps.meets-err (a .self) (a .buf .now) _ _ (c .before .before .before .before .ask-packet .ensures) (c .before .before .e .given .1) (c .refused .ensures)
 
--- src/lib.rt:269:5
+-- src/lib.rt:295:5
 same-length : tie.Need-same-length
 same-length c = search needs
 
--- src/lib.rt:269:5
+-- src/lib.rt:295:5
 returns-2 : tie.Need-returns-2
 unfolding packetCall
 returns-2 c = let a = c .before .before .before .before .before .before .before .before .before .before .args in
-    steps.meets-ok (a .self) (a .buf .now) _ _ (c .before .before .before .before .before .before .before .ask-packet .ensures) (c .before .before .before .before .before .enum-told .given .1)
+    steps.meets-ok (a .self) (a .buf .now) _ _
+    (c .before .before .before .before .before .before .before .ask-packet .ensures) (c .before .before .before .before .before .enum-told .given .1)
     (c .after-packet .ensures) (c .before .before .before .put-packet .ensures)
 
 pub write-packet-spec : {M : Type 1} → statement M
@@ -60,6 +62,7 @@ write-packet-spec =
     (tie.spec
     ask-packet-requires
     enum-known-e
+    refused-requires
     enum-told
     put-packet-requires
     after-packet-requires

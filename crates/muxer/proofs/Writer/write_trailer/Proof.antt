@@ -1,12 +1,12 @@
-use lib.ListN.{length}
-use borrow.Author.Needs.{needs}
-use mathlib.Core.Path.{_≡_, sym, ap, _∙_}
-use Prim.Native.Nat.{ℕ}
+use mathlib.Core.Path.{_≡_, ap, _∙_}
 use mathlib.Core.List.{List}
-use Rattle.error.specs.Refusal.{said}
+use Prim.Native.Nat.{ℕ}
 use native.Mathlib.Omega.{arith}
-use Rattle.muxer.specs.Writer.{trailerCall, patchRunLength}
+use lib.ListN.{length}
+use Rattle.muxer.specs.Writer.{patchRunLength}
+use Rattle.muxer.specs.Writer.{trailerCall}
 use Rattle.muxer.proofs.Steps as steps
+use borrow.Author.Needs.{needs}
 use Rattle.muxer.proofs.Writer.write_trailer.Statement.{statement}
 use Rattle.muxer.proofs.Writer.write_trailer.Tie as tie
 use Rattle.muxer.proofs.Writer.write_trailer.Reads as reads
@@ -14,55 +14,65 @@ use Rattle.muxer.proofs.Writer.write_trailer.Lts as lts
 use Rattle.muxer.proofs.Writer.after_trailer.Reads as after-trailer-reads
 use Rattle.muxer.proofs.Writer.ask_trailer.Reads as ask-trailer-reads
 use Rattle.muxer.proofs.Writer.patch_run_length.Reads as patch-run-length-reads
+use Rattle.muxer.proofs.Writer.refused.Reads as refused-reads
 use Rattle.muxer.proofs.put_trailer.Reads as put-trailer-reads
 
--- src/lib.rt:289:15
+-- src/lib.rt:312:15
 ask-trailer-requires : tie.Need-ask-trailer-requires
 ask-trailer-requires c κs = search needs
 
--- src/lib.rt:290:28
+-- src/lib.rt:313:28
 enum-known-e : tie.Need-enum-known-e
 enum-known-e c = search needs
 
--- src/lib.rt:295:29
+-- src/lib.rt:313:34
+refused-requires : tie.Need-refused-requires
+refused-requires c κs = search needs
+
+-- src/lib.rt:315:29
 enum-told : tie.Need-enum-told
 enum-told c = search needs
 
--- src/lib.rt:295:17
+-- src/lib.rt:315:17
 put-trailer-requires : tie.Need-put-trailer-requires
 put-trailer-requires c κs = let a = c .before .before .before .before .before .args in
-    steps.trailer-passed (a .self) _ (sym (c .before .before .before .ask-trailer .ensures) ∙ ap said (c .before .enum-told .given .1)) .inside
+    steps.trailer-passed (a .self) _ (steps.told-ok (c .before .before .before .ask-trailer .ensures) (c .before .enum-told .given .1)) .inside
 
--- src/lib.rt:296:17
+-- src/lib.rt:316:17
 patch-run-length-requires : tie.Need-patch-run-length-requires
 patch-run-length-requires c κs = let a = c .before .before .before .before .before .before .before .before .before .args in
-    let p = steps.trailer-passed (a .self) _ (sym (c .before .before .before .before .before .before .before .ask-trailer .ensures) ∙ ap said (c .before .before .before .before .before .enum-told .given .1)) in
+    let p = steps.trailer-passed (a .self) _ (steps.told-ok (c .before .before .before .before .before .before .before .ask-trailer .ensures) (c .before .before .before .before .before .enum-told .given .1)) in
+    let begun = p .ready .prelude in
+    let inside = p .inside in
     let l : length (c .before .before .before .put-trailer .last .0) ≡ length (a .buf .now) = search needs in
-    let q = p .ready .prelude in
-    let r = p .inside in
     omega arith
 
--- src/lib.rt:298:21
+-- src/lib.rt:318:21
 after-trailer-requires : tie.Need-after-trailer-requires
 after-trailer-requires c κs = let a = c .before .before .before .before .before .before .before .before .before .before .before .before .args in
-    steps.trailer-passed (a .self) _ (sym (c .before .before .before .before .before .before .before .before .before .before .ask-trailer .ensures) ∙ ap said (c .before .before .before .before .before .before .before .before .enum-told .given .1)) .limit
+    steps.trailer-passed (a .self) _
+    (steps.told-ok (c .before .before .before .before .before .before .before .before .before .before .ask-trailer .ensures)
+    (c .before .before .before .before .before .before .before .before .enum-told .given .1)) .limit
 
--- src/lib.rt:286:5
+-- src/lib.rt:309:5
 returns : tie.Need-returns
 unfolding trailerCall
-returns c = let a = c .before .before .before .before .before .args in
-    steps.meets-err (a .self) (a .buf .now) _ _ (c .before .before .before .ask-trailer .ensures) (c .before .e .given .1)
+returns c = let a = c .before .before .before .before .before .before .args in
+    steps.meets-err (a .self) (a .buf .now) _ _ (c .before .before .before .before .ask-trailer .ensures) (c .before .before .e .given .1) (c .refused .ensures)
 
--- src/lib.rt:286:5
+-- src/lib.rt:309:5
 same-length : tie.Need-same-length
 same-length c = search needs
 
--- src/lib.rt:286:5
+-- src/lib.rt:309:5
 returns-2 : tie.Need-returns-2
 unfolding trailerCall
 returns-2 c = let a = c .before .before .before .before .before .before .before .before .before .before .before .before .before .args in
-    steps.meets-ok (a .self) (a .buf .now) _ _ (c .before .before .before .before .before .before .before .before .before .before .before .ask-trailer .ensures) (c .before .before .before .before .before .before .before .before .before .enum-told .given .1)
-    (c .after-trailer .ensures) (c .before .before .before .patch-run-length .ensures ∙ ap (λ (l : List ℕ). patchRunLength (a .self) l) (c .before .before .before .before .before .before .before .put-trailer .ensures))
+    let put-trailer = c .before .before .before .before .before .before .before in
+    steps.meets-ok (a .self) (a .buf .now) _ _
+    (put-trailer .before .before .before .before .ask-trailer .ensures) (put-trailer .before .before .enum-told .given .1)
+    (c .after-trailer .ensures)
+    (c .before .before .before .patch-run-length .ensures ∙ ap (λ (l : List ℕ). patchRunLength (a .self) l) (put-trailer .put-trailer .ensures))
 
 pub write-trailer-spec : {M : Type 1} → statement M
 write-trailer-spec =
@@ -70,6 +80,7 @@ write-trailer-spec =
     (tie.spec
     ask-trailer-requires
     enum-known-e
+    refused-requires
     enum-told
     put-trailer-requires
     patch-run-length-requires
