@@ -1,13 +1,13 @@
 -- What the writer's functions cite: room, the questions asked first, and bytes put one after another. Assumes nothing.
 use mathlib.Core.Path.{_≡_, refl, sym, ap, _∙_}
 use mathlib.Core.Bool.{Bool, true, false, not, _&&_}
-use mathlib.Core.List.{List, [], _∷_, _++_, append-assoc}
-use Prim.Native.Nat.{ℕ, suc, _+_, _≤_, _<_, min}
+use mathlib.Core.List.{List, _++_, append-assoc}
+use Prim.Native.Nat.{ℕ, _+_, _≤_, _<_, min}
 use native.Mathlib.Numerals.{add-one}
 use native.Mathlib.Omega.{arith}
-use borrow.Author.Tests.{le-leb, lt-leb, leb-true, not-true}
+use borrow.Author.Tests.{le-leb, leb-true, not-true}
 use lib.Dec.{leb}
-use lib.ListN.{length, getD, set, take, length-append}
+use lib.ListN.{length, getD, set, length-append}
 use lib.Seq.{paste, paste-suc, take-length}
 use Rattle.error.specs.Answer.{Answer, accepted, refused, ask, andThen}
 use Rattle.error.specs.Refusal.{refusalOf, said}
@@ -17,7 +17,7 @@ use Rattle.error.specs.declared.AmvResult.the-variants.{Ok, Err}
 use Rattle.error.proofs.Answers.{then-ok, then-err, ask-passed}
 use Rattle.fields.specs.Le.{leBytes, put}
 use Rattle.fields.proofs.Laws.{put-put, length-leBytes}
-use Rattle.muxer.specs.Writer.{Outcome, outcome, Meets, givenBack, fits, hasPrelude, streamTag, packetBytes, askOpen, packetQuestions, trailerQuestions, headerQuestions}
+use Rattle.muxer.specs.Writer.{outcome, Meets, givenBack, fits, hasPrelude, streamTag, packetBytes, askOpen, packetQuestions, trailerQuestions, headerQuestions}
 use Rattle.muxer.specs.declared.Writer.{Writer}
 use Rattle.muxer.specs.declared.Wrote.{Wrote}
 

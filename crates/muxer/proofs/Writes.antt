@@ -1,22 +1,20 @@
 -- What the three calls do to the file, the first bytes-written bytes of the buffer. Assumes nothing.
 use mathlib.Core.Path.{_≡_, refl, sym, ap, _∙_}
-use mathlib.Core.Bool.{Bool, true, false, cond, _&&_, not}
-use mathlib.Core.List.{List, [], _∷_, _++_, append-assoc}
-use Prim.Native.Nat.{ℕ, _+_, _-_, _≤_, _<_}
+use mathlib.Core.Bool.{Bool, true, false, cond, _&&_}
+use mathlib.Core.List.{List, _++_, append-assoc}
+use Prim.Native.Nat.{ℕ, _+_, _-_, _≤_}
 use native.Mathlib.Omega.{arith}
-use borrow.Author.Tests.{not-true}
 use lib.Dec.{ltb}
 use lib.ListN.{length, take, drop, length-append, length-take}
-use lib.Seq.{take-at, drop-at, take-add, take-take, take-append-add, take-append-le, length-take-le}
+use lib.Seq.{take-at, drop-at, take-add, take-take, take-append-add, length-take-le}
 use Rattle.duration.specs.Duration.{packedOf, runLength}
 use Rattle.error.specs.Answer.{Answer, accepted, refused}
 use Rattle.error.specs.declared.Refusal.{Refusal}
-use Rattle.error.proofs.Answers.{ask-passed}
 use Rattle.fields.specs.Le.{leBytes, put}
 use Rattle.fields.proofs.Laws.{length-put, length-leBytes}
 use Rattle.prelude.specs.Built.{preludeBytes}
 use Rattle.prelude.proofs.BuiltLaws.{length-prelude}
-use Rattle.muxer.specs.Writer.{Outcome, outcome, streamTag, packetBytes, trailerBytes, patchRunLength, headerQuestions, packetQuestions, trailerQuestions, afterHeader, afterPacket, afterTrailer, headerCall, packetCall, trailerCall}
+use Rattle.muxer.specs.Writer.{outcome, streamTag, packetBytes, trailerBytes, patchRunLength, headerQuestions, packetQuestions, trailerQuestions, afterHeader, afterPacket, afterTrailer, headerCall, packetCall, trailerCall}
 use Rattle.muxer.specs.declared.Settings.{Settings}
 use Rattle.muxer.specs.declared.Writer.{Writer}
 use Rattle.muxer.proofs.Steps.{Open, PacketPassed, TrailerPassed, header-passed, packet-passed, trailer-passed}

@@ -1,5 +1,4 @@
 use mathlib.Core.Path.{ap, _∙_}
-use mathlib.Core.List.{List}
 use Prim.Native.Nat.{ℕ, _+_}
 use Rattle.fields.specs.Le.{putLe}
 use Rattle.muxer.proofs.Steps as steps

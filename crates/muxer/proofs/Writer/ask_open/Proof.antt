@@ -1,3 +1,4 @@
+use native.Mathlib.Omega.{arith}
 use borrow.Author.Tests.{le-leb, lt-leb, not-true, not-false}
 use Rattle.muxer.proofs.Writer.ask_open.Statement.{statement}
 use Rattle.muxer.proofs.Writer.ask_open.Tie as tie
@@ -14,11 +15,11 @@ returns-2 c = rw (not-false (c .before .before .before .args .self .begun) (c .b
 
 -- src/lib.rt:156:13
 returns-3 : tie.Need-returns-3
-returns-3 c = rw (not-false (c .before .before .before .before .before .args .self .begun) (c .before .before .before .if1 .left), c .before .before .if2 .left, lt-leb 316 (c .before .before .before .before .before .args .self .written) (c .if3 .taken))
+returns-3 c = rw (not-false (c .before .before .before .before .before .args .self .begun) (c .before .before .before .if1 .left), c .before .before .if2 .left, lt-leb 316 (c .before .before .before .before .before .args .self .written) (omega arith))
 
 -- src/lib.rt:146:5
 returns-4 : tie.Need-returns-4
-returns-4 c = rw (not-false (c .before .before .before .before .before .args .self .begun) (c .before .before .before .if1 .left), c .before .before .if2 .left, le-leb 316 (c .before .before .before .before .before .args .self .written) (c .if3 .left))
+returns-4 c = rw (not-false (c .before .before .before .before .before .args .self .begun) (c .before .before .before .if1 .left), c .before .before .if2 .left, le-leb 316 (c .before .before .before .before .before .args .self .written) (omega arith))
 
 pub ask-open-spec : {M : Type 1} → statement M
 ask-open-spec = tie.close (tie.spec returns returns-2 returns-3 returns-4)

@@ -1,3 +1,4 @@
+use native.Mathlib.Omega.{arith}
 use mathlib.Core.Path.{sym, ap, _∙_}
 use Prim.Native.Nat.{ℕ, _+_}
 use borrow.Author.Tests.{le-leb, lt-leb}
@@ -33,14 +34,14 @@ returns-2 : tie.Need-returns-2
 unfolding packetQuestions
 returns-2 c = let a = c .before .before .before .before .args in
     sym (open-ok (a .self) _ (c .before .before .before .ask-open .ensures) (c .before .enum-told .given .1)
-    ∙ rw (lt-leb (a .size) 4294967295 (c .if1 .taken)))
+    ∙ rw (lt-leb (a .size) 4294967295 (omega arith)))
 
 -- src/lib.rt:192:13
 returns-3 : tie.Need-returns-3
 unfolding packetQuestions
 returns-3 c = let a = c .before .before .before .before .before .args in
     sym (open-ok (a .self) _ (c .before .before .before .before .ask-open .ensures) (c .before .before .enum-told .given .1)
-    ∙ rw (le-leb (a .size) 4294967295 (c .before .if1 .left), lt-leb (a .stream) 1 (c .if2 .taken)))
+    ∙ rw (le-leb (a .size) 4294967295 (omega arith), lt-leb (a .stream) 1 (omega arith)))
 
 -- src/lib.rt:194:41
 packet-len-requires : tie.Need-packet-len-requires
@@ -56,8 +57,8 @@ unfolding packetQuestions
 returns-4 c = let a = c .before .before .before .before .before .before .before .before .args in
     sym (open-ok (a .self) _ (c .before .before .before .before .before .before .before .ask-open .ensures) (c .before .before .before .before .before .enum-told .given .1)
     ∙ rw (
-      le-leb (a .size) 4294967295 (c .before .before .before .before .if1 .left),
-      le-leb (a .stream) 1 (c .before .before .before .if2 .left),
+      le-leb (a .size) 4294967295 (omega arith),
+      le-leb (a .stream) 1 (omega arith),
       ap (λ (n : ℕ). fits (a .self .written + n) (a .room)) (sym (c .before .before .packet-len .ensures)) ∙ sym (c .before .has-room .ensures) ∙ c .if3 .taken,
     ))
 
@@ -67,8 +68,8 @@ unfolding packetQuestions
 returns-5 c = let a = c .before .before .before .before .before .before .before .before .args in
     sym (open-ok (a .self) _ (c .before .before .before .before .before .before .before .ask-open .ensures) (c .before .before .before .before .before .enum-told .given .1)
     ∙ rw (
-      le-leb (a .size) 4294967295 (c .before .before .before .before .if1 .left),
-      le-leb (a .stream) 1 (c .before .before .before .if2 .left),
+      le-leb (a .size) 4294967295 (omega arith),
+      le-leb (a .stream) 1 (omega arith),
       ap (λ (n : ℕ). fits (a .self .written + n) (a .room)) (sym (c .before .before .packet-len .ensures)) ∙ sym (c .before .has-room .ensures) ∙ c .if3 .left,
     ))
 
