@@ -17,7 +17,7 @@ use Rattle.error.specs.declared.AmvResult.the-variants.{Ok, Err}
 use Rattle.error.proofs.Answers.{then-ok, then-err, ask-passed}
 use Rattle.fields.specs.Le.{leBytes, put}
 use Rattle.fields.proofs.Laws.{put-put, length-leBytes}
-use Rattle.muxer.specs.Writer.{outcome, Meets, givenBack, fits, hasPrelude, streamTag, packetBytes, askOpen, packetQuestions, trailerQuestions, headerQuestions}
+use Rattle.muxer.specs.Writer.{outcome, Meets, acceptedWith, refusedWith, fits, hasPrelude, streamTag, packetBytes, askOpen, packetQuestions, trailerQuestions, headerQuestions}
 use Rattle.muxer.specs.declared.Writer.{Writer}
 use Rattle.muxer.specs.declared.Wrote.{Wrote}
 
@@ -163,17 +163,17 @@ pub told-ok : {q : Answer Unit} {s : AmvResult} → said s ≡ q → s ≡ Ok �
 told-ok p e = sym p ∙ ap said e
 
 module _ {q : Answer Unit} {s : AmvResult} (w : Writer) (buf : List ℕ) (next : Writer) (after : List ℕ) where
-  pub meets-ok : {writer : Writer} {buffer : List ℕ} → said s ≡ q → s ≡ Ok → writer ≡ next → buffer ≡ after
-      → Meets (outcome q w buf next after) (record { result = Ok; writer = writer }) buffer
-  meets-ok p e a b =
+  pub meets-ok : {r : Wrote} {writer : Writer} {buffer : List ℕ} → said s ≡ q → s ≡ Ok → r ≡ acceptedWith writer → writer ≡ next → buffer ≡ after
+      → Meets (outcome q w buf next after) r buffer
+  meets-ok p e g a b =
       let k : accepted tt ≡ q = sym (told-ok p e) in
       record {
-        answer = ap (λ (x : Answer Unit). outcome x w buf next after .answer) k;
-        writer = a ∙ ap (λ (x : Answer Unit). outcome x w buf next after .writer) k;
+        answer = ap (λ (x : Wrote). said (x .result)) g ∙ ap (λ (x : Answer Unit). outcome x w buf next after .answer) k;
+        writer = ap (λ (x : Wrote). x .writer) g ∙ a ∙ ap (λ (x : Answer Unit). outcome x w buf next after .writer) k;
         buffer = b ∙ ap (λ (x : Answer Unit). outcome x w buf next after .buffer) k;
       }
 
-  pub meets-err : {e : AmvError} {r : Wrote} → said s ≡ q → s ≡ Err e → r ≡ givenBack w e → Meets (outcome q w buf next after) r buf
+  pub meets-err : {e : AmvError} {r : Wrote} → said s ≡ q → s ≡ Err e → r ≡ refusedWith e w → Meets (outcome q w buf next after) r buf
   meets-err {e} p d g =
       let k : refused (refusalOf e) ≡ q = sym (ap said d) ∙ p in
       record {

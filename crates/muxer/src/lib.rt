@@ -13,7 +13,7 @@ ghost use Rattle.error.specs.Answer.{accepted};
 ghost use Rattle.error.specs.Refusal.{said};
 ghost use Rattle.fields.specs.Le.{put};
 ghost use Rattle.prelude.specs.Built.{preludeBytes};
-ghost use Rattle.muxer.specs.Writer.{fresh, fits, streamTag, framesAfter, packetBytes, trailerBytes, patchRunLength, askOpen, headerQuestions, packetQuestions, trailerQuestions, afterHeader, afterPacket, afterTrailer, headerCall, packetCall, trailerCall, Meets, givenBack};
+ghost use Rattle.muxer.specs.Writer.{fresh, fits, streamTag, framesAfter, packetBytes, trailerBytes, patchRunLength, askOpen, headerQuestions, packetQuestions, trailerQuestions, afterHeader, afterPacket, afterTrailer, headerCall, packetCall, trailerCall, Meets, acceptedWith, refusedWith};
 
 pub struct Settings {
     pub width: u32,
@@ -113,6 +113,22 @@ fn put_trailer(buf: &mut [u8], off: usize)
     ensures { λ _. ⌜ now (buf .exit) ≡ put (now (buf .entry)) off trailerBytes ⌝ }
 {
     copy_in(buf, off, b"AMV_END_");
+}
+
+impl Wrote {
+    fn accepted(writer: Writer) -> Wrote
+        ensures { λ r. ⌜ r ≡ acceptedWith writer ⌝ }
+    {
+        let result = AmvResult::Ok;
+        Wrote { result, writer }
+    }
+
+    fn refused(e: AmvError, writer: Writer) -> Wrote
+        ensures { λ r. ⌜ r ≡ refusedWith e writer ⌝ }
+    {
+        let result = AmvResult::Err(e);
+        Wrote { result, writer }
+    }
 }
 
 impl Settings {
@@ -269,28 +285,15 @@ impl Writer {
         fields::write_u32_le(buf, 84, run_length.to_packed());
     }
 
-    // A refusal gives the state back.
-    fn refused(self, e: AmvError) -> Wrote
-        ensures { λ r. ⌜ r ≡ givenBack self e ⌝ }
-    {
-        let result = AmvResult::Err(e);
-        Wrote {
-            result,
-            writer: self,
-        }
-    }
-
     pub fn write_header(self, buf: &mut [u8]) -> Wrote
         ensures { λ r. ⌜ Meets (headerCall self (now (buf .entry))) r (now (buf .exit)) ⌝ }
     {
         match self.ask_header(buf.len()) {
-            AmvResult::Err(e) => self.refused(e),
+            AmvResult::Err(e) => Wrote::refused(e, self),
             AmvResult::Ok => {
                 let settings = self.settings;
                 settings.put_prelude(buf);
-                let result = AmvResult::Ok;
-                let writer = self.after_header();
-                Wrote { result, writer }
+                Wrote::accepted(self.after_header())
             }
         }
     }
@@ -299,12 +302,10 @@ impl Writer {
         ensures { λ r. ⌜ Meets (packetCall self (now (payload .entry)) stream (now (buf .entry))) r (now (buf .exit)) ⌝ }
     {
         match self.ask_packet(payload.len(), stream, buf.len()) {
-            AmvResult::Err(e) => self.refused(e),
+            AmvResult::Err(e) => Wrote::refused(e, self),
             AmvResult::Ok => {
                 put_packet(buf, self.written as usize, payload, stream);
-                let result = AmvResult::Ok;
-                let writer = self.after_packet(payload.len(), stream);
-                Wrote { result, writer }
+                Wrote::accepted(self.after_packet(payload.len(), stream))
             }
         }
     }
@@ -313,13 +314,11 @@ impl Writer {
         ensures { λ r. ⌜ Meets (trailerCall self (now (buf .entry))) r (now (buf .exit)) ⌝ }
     {
         match self.ask_trailer(buf.len()) {
-            AmvResult::Err(e) => self.refused(e),
+            AmvResult::Err(e) => Wrote::refused(e, self),
             AmvResult::Ok => {
                 put_trailer(buf, self.written as usize);
                 self.patch_run_length(buf);
-                let result = AmvResult::Ok;
-                let writer = self.after_trailer();
-                Wrote { result, writer }
+                Wrote::accepted(self.after_trailer())
             }
         }
     }
