@@ -1,0 +1,51 @@
+use Rattle.prelude.specs.Built.{builtOf}
+use mathlib.Core.Path.{_≡_, ap, _∙_}
+use native.Mathlib.Omega.{arith}
+use lib.ListN.{length}
+use Rattle.fields.specs.Le.{put}
+use Rattle.prelude.specs.declared.build.BuiltPrelude.{BuiltPrelude}
+use Rattle.prelude.proofs.BuiltLaws.{length-prelude}
+use borrow.Author.Needs.{needs}
+use Rattle.muxer.proofs.Settings.put_prelude.Statement.{statement}
+use Rattle.muxer.proofs.Settings.put_prelude.Tie as tie
+use Rattle.muxer.proofs.Settings.put_prelude.Reads as reads
+use Rattle.muxer.proofs.Settings.put_prelude.Lts as lts
+use Rattle.muxer.proofs.copy_in.Reads as copy-in-reads
+use Rattle.prelude.proofs.build.build_prelude_bytes.Reads as build-prelude-bytes-reads
+
+-- src/lib.rt:109:13
+build-prelude-bytes-requires : tie.Need-build-prelude-bytes-requires
+build-prelude-bytes-requires c κs = search needs
+
+-- src/lib.rt:111:25
+slice-aggregate-copy-in : tie.Need-slice-aggregate-copy-in
+slice-aggregate-copy-in c = search needs
+
+-- src/lib.rt:111:9
+copy-in-requires : tie.Need-copy-in-requires
+copy-in-requires c κs = let s = c .before .before .before .before .before .args .self in
+    let e : length (c .before .before .before .build-prelude-bytes .result .bytes) ≡ 316 =
+    ap (λ (b : BuiltPrelude). length (b .bytes)) {y = builtOf (s .width) (s .height) (s .fps) 0 (s .rate) (s .channels)} (c .before .before .before .build-prelude-bytes .ensures)
+    ∙ length-prelude (s .width) (s .height) (s .fps) 0 (s .rate) (s .channels) in
+    omega arith
+
+-- src/lib.rt:105:5
+same-length : tie.Need-same-length
+same-length c = search needs
+
+-- src/lib.rt:105:5
+returns : tie.Need-returns
+returns c = let a = c .before .before .before .before .before .before .before .before .args in
+    let s = a .self in
+    c .before .before .copy-in .ensures
+    ∙ ap (λ (b : BuiltPrelude). put (a .buf .now) 0 (b .bytes)) {y = builtOf (s .width) (s .height) (s .fps) 0 (s .rate) (s .channels)} (c .before .before .before .before .before .before .build-prelude-bytes .ensures)
+
+pub put-prelude-spec : {M : Type 1} → statement M
+put-prelude-spec =
+    tie.close
+    (tie.spec
+    build-prelude-bytes-requires
+    slice-aggregate-copy-in
+    copy-in-requires
+    same-length
+    returns)

@@ -1,0 +1,35 @@
+use mathlib.Core.Path.{sym, _∙_}
+use Rattle.muxer.specs.Writer.{headerQuestions}
+use borrow.Author.Needs.{needs}
+use Rattle.muxer.proofs.Writer.ask_header.Statement.{statement}
+use Rattle.muxer.proofs.Writer.ask_header.Tie as tie
+use Rattle.muxer.proofs.Writer.ask_header.Reads as reads
+use Rattle.muxer.proofs.Writer.ask_header.Lts as lts
+use Rattle.muxer.proofs.has_room.Reads as has-room-reads
+
+-- src/lib.rt:133:13
+returns : tie.Need-returns
+unfolding headerQuestions
+returns c = rw (c .if1 .taken)
+
+-- src/lib.rt:136:13
+returns-2 : tie.Need-returns-2
+unfolding headerQuestions
+returns-2 c = rw (c .before .if1 .left, c .if2 .taken)
+
+-- src/lib.rt:138:12
+has-room-requires : tie.Need-has-room-requires
+has-room-requires c κs = search needs
+
+-- src/lib.rt:129:5
+returns-3 : tie.Need-returns-3
+unfolding headerQuestions
+returns-3 c = rw (c .before .before .before .if1 .left, c .before .before .if2 .left, sym (c .before .has-room .ensures) ∙ c .if3 .taken)
+
+-- src/lib.rt:129:5
+returns-4 : tie.Need-returns-4
+unfolding headerQuestions
+returns-4 c = rw (c .before .before .before .if1 .left, c .before .before .if2 .left, sym (c .before .has-room .ensures) ∙ c .if3 .left)
+
+pub ask-header-spec : {M : Type 1} → statement M
+ask-header-spec = tie.close (tie.spec returns returns-2 has-room-requires returns-3 returns-4)

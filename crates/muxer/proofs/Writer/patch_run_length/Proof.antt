@@ -1,0 +1,56 @@
+use native.Mathlib.Omega.{arith}
+use borrow.Author.Tests.{lt-ltb, le-ltb}
+use Rattle.muxer.specs.Writer.{patchRunLength}
+use borrow.Author.Needs.{needs}
+use Rattle.muxer.proofs.Writer.patch_run_length.Statement.{statement}
+use Rattle.muxer.proofs.Writer.patch_run_length.Tie as tie
+use Rattle.muxer.proofs.Writer.patch_run_length.Reads as reads
+use Rattle.muxer.proofs.Writer.patch_run_length.Lts as lts
+use Rattle.duration.proofs.AmvDuration.from_frame_count.Reads as from-frame-count-reads
+use Rattle.duration.proofs.AmvDuration.to_packed.Reads as to-packed-reads
+use Rattle.fields.proofs.write_u32_le.Reads as write-u32-le-reads
+
+-- src/lib.rt:242:13
+returns : tie.Need-returns
+unfolding patchRunLength
+returns c = rw (le-ltb 0 (c .before .before .before .args .self .settings .fps) (omega arith))
+
+-- src/lib.rt:245:13
+returns-2 : tie.Need-returns-2
+unfolding patchRunLength
+returns-2 c = let s = c .before .before .before .before .before .args .self in
+    rw (lt-ltb 0 (s .settings .fps) (omega arith), le-ltb 0 (s .frames) (omega arith))
+
+-- src/lib.rt:247:13
+from-frame-count-requires : tie.Need-from-frame-count-requires
+from-frame-count-requires c κs = search needs
+
+-- src/lib.rt:248:39
+to-packed-requires : tie.Need-to-packed-requires
+to-packed-requires c κs = search needs
+
+-- src/lib.rt:248:9
+write-u32-le-requires : tie.Need-write-u32-le-requires
+write-u32-le-requires c κs = search needs
+
+-- src/lib.rt:235:5
+same-length : tie.Need-same-length
+same-length c = search needs
+
+-- src/lib.rt:235:5
+returns-3 : tie.Need-returns-3
+unfolding patchRunLength
+returns-3 c = let s = c .before .before .before .before .before .before .before .before .before .before .before .args .self in
+    rw (lt-ltb 0 (s .settings .fps) (omega arith), lt-ltb 0 (s .frames) (omega arith)) (cc)
+
+pub patch-run-length-spec : {M : Type 1} → statement M
+patch-run-length-spec =
+    tie.close
+    (tie.spec
+    returns
+    returns-2
+    from-frame-count-requires
+    to-packed-requires
+    write-u32-le-requires
+    same-length
+    returns-3)

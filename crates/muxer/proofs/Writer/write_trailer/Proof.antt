@@ -1,0 +1,96 @@
+use mathlib.Core.Path.{_≡_, ap, _∙_}
+use mathlib.Core.List.{List}
+use Prim.Native.Nat.{ℕ}
+use native.Mathlib.Omega.{arith}
+use lib.ListN.{length}
+use Rattle.muxer.specs.Writer.{patchRunLength}
+use Rattle.muxer.specs.Writer.{trailerCall}
+use Rattle.muxer.proofs.Steps as steps
+use borrow.Author.Needs.{needs}
+use Rattle.muxer.proofs.Writer.write_trailer.Statement.{statement}
+use Rattle.muxer.proofs.Writer.write_trailer.Tie as tie
+use Rattle.muxer.proofs.Writer.write_trailer.Reads as reads
+use Rattle.muxer.proofs.Writer.write_trailer.Lts as lts
+use Rattle.muxer.proofs.Wrote.accepted.Reads as accepted-reads
+use Rattle.muxer.proofs.Writer.after_trailer.Reads as after-trailer-reads
+use Rattle.muxer.proofs.Writer.ask_trailer.Reads as ask-trailer-reads
+use Rattle.muxer.proofs.Writer.patch_run_length.Reads as patch-run-length-reads
+use Rattle.muxer.proofs.Wrote.refused.Reads as refused-reads
+use Rattle.muxer.proofs.put_trailer.Reads as put-trailer-reads
+
+-- src/lib.rt:324:15
+ask-trailer-requires : tie.Need-ask-trailer-requires
+ask-trailer-requires c κs = search needs
+
+-- src/lib.rt:325:28
+enum-known-e : tie.Need-enum-known-e
+enum-known-e c = search needs
+
+-- src/lib.rt:325:34
+refused-requires : tie.Need-refused-requires
+refused-requires c κs = search needs
+
+-- src/lib.rt:327:29
+enum-told : tie.Need-enum-told
+enum-told c = search needs
+
+-- src/lib.rt:327:17
+put-trailer-requires : tie.Need-put-trailer-requires
+put-trailer-requires c κs = let a = c .before .before .before .before .before .args in
+    steps.trailer-passed (a .self) _ (steps.told-ok (c .before .before .before .ask-trailer .ensures) (c .before .enum-told .given .1)) .inside
+
+-- src/lib.rt:328:17
+patch-run-length-requires : tie.Need-patch-run-length-requires
+patch-run-length-requires c κs = let a = c .before .before .before .before .before .before .before .before .before .args in
+    let told = c .before .before .before .before .before in
+    let p = steps.trailer-passed (a .self) _ (steps.told-ok (told .before .before .ask-trailer .ensures) (told .enum-told .given .1)) in
+    let prelude = p .ready .prelude in
+    let inside = p .inside in
+    let l : length (c .before .before .before .put-trailer .last .0) ≡ length (a .buf .now) = search needs in
+    omega arith
+
+-- src/lib.rt:329:21
+after-trailer-requires : tie.Need-after-trailer-requires
+after-trailer-requires c κs = let a = c .before .before .before .before .before .before .before .before .before .before .before .before .args in
+    let told = c .before .before .before .before .before .before .before .before in
+    steps.trailer-passed (a .self) _ (steps.told-ok (told .before .before .ask-trailer .ensures) (told .enum-told .given .1)) .limit
+
+-- src/lib.rt:330:17
+accepted-requires : tie.Need-accepted-requires
+accepted-requires c κs = search needs
+
+-- src/lib.rt:321:5
+returns : tie.Need-returns
+unfolding trailerCall
+returns c = let a = c .before .before .before .before .before .before .args in
+    steps.meets-err (a .self) (a .buf .now) _ _ (c .before .before .before .before .ask-trailer .ensures) (c .before .before .e .given .1) (c .refused .ensures)
+
+-- src/lib.rt:321:5
+same-length : tie.Need-same-length
+same-length c = search needs
+
+-- src/lib.rt:321:5
+returns-2 : tie.Need-returns-2
+unfolding trailerCall
+returns-2 c = let a = c .before .before .before .before .before .before .before .before .before .before .before .before .before .before .args in
+    let trailer = c .before .before .before .before .before .before .before .before in
+    let told = trailer .before .before in
+    steps.meets-ok (a .self) (a .buf .now) _ _ (told .before .before .ask-trailer .ensures) (told .enum-told .given .1)
+    (c .accepted .ensures) (c .before .after-trailer .ensures)
+    (c .before .before .before .before .patch-run-length .ensures ∙ ap (λ (l : List ℕ). patchRunLength (a .self) l) (trailer .put-trailer .ensures))
+
+pub write-trailer-spec : {M : Type 1} → statement M
+write-trailer-spec =
+    tie.close
+    (tie.spec
+    ask-trailer-requires
+    enum-known-e
+    refused-requires
+    enum-told
+    put-trailer-requires
+    patch-run-length-requires
+    after-trailer-requires
+    accepted-requires
+    returns
+    same-length
+    returns-2)

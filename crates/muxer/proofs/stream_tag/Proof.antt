@@ -1,0 +1,16 @@
+use borrow.Author.Tests.{eq-eqb, ne-eqb}
+use Rattle.muxer.proofs.stream_tag.Statement.{statement}
+use Rattle.muxer.proofs.stream_tag.Tie as tie
+use Rattle.muxer.proofs.stream_tag.Reads as reads
+use Rattle.muxer.proofs.stream_tag.Lts as lts
+
+-- src/lib.rt:55:1
+returns : tie.Need-returns
+returns c = rw (eq-eqb _ _ (c .if1 .taken))
+
+-- src/lib.rt:55:1
+returns-2 : tie.Need-returns-2
+returns-2 c = rw (ne-eqb _ _ (c .if1 .left))
+
+pub stream-tag-spec : {M : Type 1} → statement M
+stream-tag-spec = tie.close (tie.spec returns returns-2)

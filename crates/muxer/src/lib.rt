@@ -1,0 +1,325 @@
+// The writer: a state by value over one lent buffer, and the three calls that write a file.
+use chunk::AUDIO_CHUNK_TAG;
+use chunk::VIDEO_CHUNK_TAG;
+use duration::AmvDuration;
+use error::AmvError;
+use error::AmvResult;
+use fields::file::FILE_LIMIT;
+use prelude::build::build_prelude_bytes;
+ghost use mathlib.Core.Path.{_≡_};
+ghost use Prim.Native.Nat.{_+_, _≤_};
+ghost use lib.ListN.{length};
+ghost use Rattle.error.specs.Answer.{accepted};
+ghost use Rattle.error.specs.Refusal.{said};
+ghost use Rattle.fields.specs.Le.{put};
+ghost use Rattle.prelude.specs.Built.{preludeBytes};
+ghost use Rattle.muxer.specs.Writer.{fresh, fits, streamTag, framesAfter, packetBytes, trailerBytes, patchRunLength, askOpen, headerQuestions, packetQuestions, trailerQuestions, afterHeader, afterPacket, afterTrailer, headerCall, packetCall, trailerCall, Meets, acceptedWith, refusedWith};
+
+pub struct Settings {
+    pub width: u32,
+    pub height: u32,
+    pub fps: u32,
+    pub rate: u32,
+    pub channels: u16,
+}
+
+pub struct Writer {
+    pub settings: Settings,
+    pub begun: bool,
+    pub ended: bool,
+    pub written: u64,
+    pub frames: u64,
+}
+
+// A call's answer and the state that the next call gets.
+pub struct Wrote {
+    pub result: AmvResult,
+    pub writer: Writer,
+}
+
+// Whether len bytes from an offset on end at or before the buffer's end and the file limit. The sum may be past a u64.
+fn has_room(room: usize, off: u64, len: u64) -> bool
+    ensures { λ r. ⌜ r ≡ fits (off + len) room ⌝ }
+{
+    let limit = fields::min(room as u64, FILE_LIMIT);
+    if limit < off {
+        return false;
+    }
+    if limit - off < len {
+        return false;
+    }
+    true
+}
+
+fn stream_tag(stream: u32) -> u32
+    ensures { λ r. ⌜ r ≡ streamTag stream ⌝ }
+{
+    if stream == 0 {
+        VIDEO_CHUNK_TAG
+    } else {
+        AUDIO_CHUNK_TAG
+    }
+}
+
+// A packet's length in the file: a tag, a size, the payload and no padding.
+fn packet_len(size: usize) -> u64
+    requires { ⌜ size ≤ 4294967295 ⌝ }
+    ensures { λ r. ⌜ r ≡ 8 + size ⌝ }
+{
+    8 + size as u64
+}
+
+fn payload_size(payload: &[u8]) -> u32
+    requires { ⌜ length (now payload) ≤ 4294967295 ⌝ }
+    ensures { λ r. ⌜ r ≡ length (now (payload .entry)) ⌝ }
+{
+    payload.len() as u32
+}
+
+// A frame counts one, up to the largest u64.
+fn frames_after(stream: u32, frames: u64) -> u64
+    ensures { λ r. ⌜ r ≡ framesAfter stream frames ⌝ }
+{
+    if stream == 0 {
+        fields::min(frames, 18446744073709551614) + 1
+    } else {
+        frames
+    }
+}
+
+fn copy_in(buf: &mut [u8], off: usize, src: &[u8])
+    requires { ⌜ off + length (now src) ≤ length (now buf) ⌝ }
+    ensures { λ _. ⌜ now (buf .exit) ≡ put (now (buf .entry)) off (now (src .entry)) ⌝ }
+{
+    let mut i = 0;
+    while i < src.len() {
+        buf[off + i] = src[i];
+        i += 1;
+    }
+}
+
+fn put_packet(buf: &mut [u8], off: usize, payload: &[u8], stream: u32)
+    requires { ⌜ off + (8 + length (now payload)) ≤ length (now buf) ⌝ }
+    requires { ⌜ length (now payload) ≤ 4294967295 ⌝ }
+    ensures { λ _. ⌜ now (buf .exit) ≡ put (now (buf .entry)) off (packetBytes stream (now (payload .entry))) ⌝ }
+{
+    fields::write_u32_le(buf, off, stream_tag(stream));
+    fields::write_u32_le(buf, off + 4, payload_size(payload));
+    copy_in(buf, off + 8, payload);
+}
+
+fn put_trailer(buf: &mut [u8], off: usize)
+    requires { ⌜ off + 8 ≤ length (now buf) ⌝ }
+    ensures { λ _. ⌜ now (buf .exit) ≡ put (now (buf .entry)) off trailerBytes ⌝ }
+{
+    copy_in(buf, off, b"AMV_END_");
+}
+
+impl Wrote {
+    fn accepted(writer: Writer) -> Wrote
+        ensures { λ r. ⌜ r ≡ acceptedWith writer ⌝ }
+    {
+        let result = AmvResult::Ok;
+        Wrote { result, writer }
+    }
+
+    fn refused(e: AmvError, writer: Writer) -> Wrote
+        ensures { λ r. ⌜ r ≡ refusedWith e writer ⌝ }
+    {
+        let result = AmvResult::Err(e);
+        Wrote { result, writer }
+    }
+}
+
+impl Settings {
+    fn put_prelude(self, buf: &mut [u8])
+        requires { ⌜ 316 ≤ length (now buf) ⌝ }
+        ensures { λ _. ⌜ now (buf .exit) ≡ put (now (buf .entry)) 0 (preludeBytes (self .width) (self .height) (self .fps) 0 (self .rate) (self .channels)) ⌝ }
+    {
+        let built = build_prelude_bytes(
+            self.width,
+            self.height,
+            self.fps,
+            0,
+            self.rate,
+            self.channels,
+        );
+        let bytes = built.bytes;
+        copy_in(buf, 0, &bytes);
+    }
+}
+
+impl Writer {
+    pub fn new(settings: Settings) -> Writer
+        ensures { λ r. ⌜ r ≡ fresh settings ⌝ }
+    {
+        Writer {
+            settings,
+            begun: false,
+            ended: false,
+            written: 0,
+            frames: 0,
+        }
+    }
+
+    // A writer that has not begun has no prelude to miss.
+    fn ask_header(self, room: usize) -> AmvResult
+        ensures { λ r. ⌜ said r ≡ headerQuestions self room ⌝ }
+    {
+        if self.begun {
+            return AmvResult::Err(AmvError::AlreadyBegun(self.written));
+        }
+        if self.ended {
+            return AmvResult::Err(AmvError::AlreadyEnded(self.written));
+        }
+        if has_room(room, 0, 316) {
+            AmvResult::Ok
+        } else {
+            AmvResult::Err(AmvError::NoRoom(self.written))
+        }
+    }
+
+    // What a packet and the trailer both ask first.
+    fn ask_open(self) -> AmvResult
+        ensures { λ r. ⌜ said r ≡ askOpen self (accepted tt) ⌝ }
+    {
+        if !self.begun {
+            return AmvResult::Err(AmvError::NotBegun(self.written));
+        }
+        if self.ended {
+            return AmvResult::Err(AmvError::AlreadyEnded(self.written));
+        }
+        if self.written < 316 {
+            return AmvResult::Err(AmvError::PreludeMissing(self.written));
+        }
+        AmvResult::Ok
+    }
+
+    fn ask_packet(self, size: usize, stream: u32, room: usize) -> AmvResult
+        ensures { λ r. ⌜ said r ≡ packetQuestions self size stream room ⌝ }
+    {
+        if let AmvResult::Err(e) = self.ask_open() {
+            return AmvResult::Err(e);
+        }
+        if size > 4294967295 {
+            return AmvResult::Err(AmvError::PayloadTooLong(self.written));
+        }
+        if stream > 1 {
+            return AmvResult::Err(AmvError::PacketOfNoStream(self.written));
+        }
+        if has_room(room, self.written, packet_len(size)) {
+            AmvResult::Ok
+        } else {
+            AmvResult::Err(AmvError::NoRoom(self.written))
+        }
+    }
+
+    fn ask_trailer(self, room: usize) -> AmvResult
+        ensures { λ r. ⌜ said r ≡ trailerQuestions self room ⌝ }
+    {
+        if let AmvResult::Err(e) = self.ask_open() {
+            return AmvResult::Err(e);
+        }
+        if has_room(room, self.written, 8) {
+            AmvResult::Ok
+        } else {
+            AmvResult::Err(AmvError::NoRoom(self.written))
+        }
+    }
+
+    fn after_header(self) -> Writer
+        ensures { λ r. ⌜ r ≡ afterHeader self ⌝ }
+    {
+        let settings = self.settings;
+        Writer {
+            settings,
+            begun: true,
+            ended: self.ended,
+            written: 316,
+            frames: self.frames,
+        }
+    }
+
+    fn after_packet(self, size: usize, stream: u32) -> Writer
+        requires { ⌜ self .written + (8 + size) ≤ 4294967295 ⌝ }
+        ensures { λ r. ⌜ r ≡ afterPacket self size stream ⌝ }
+    {
+        let settings = self.settings;
+        Writer {
+            settings,
+            begun: self.begun,
+            ended: self.ended,
+            written: self.written + packet_len(size),
+            frames: frames_after(stream, self.frames),
+        }
+    }
+
+    fn after_trailer(self) -> Writer
+        requires { ⌜ self .written + 8 ≤ 4294967295 ⌝ }
+        ensures { λ r. ⌜ r ≡ afterTrailer self ⌝ }
+    {
+        let settings = self.settings;
+        Writer {
+            settings,
+            begun: self.begun,
+            ended: true,
+            written: self.written + 8,
+            frames: self.frames,
+        }
+    }
+
+    // The run length of the frames so far, where there is one.
+    fn patch_run_length(self, buf: &mut [u8])
+        requires { ⌜ 88 ≤ length (now buf) ⌝ }
+        ensures { λ _. ⌜ now (buf .exit) ≡ patchRunLength self (now (buf .entry)) ⌝ }
+    {
+        let settings = self.settings;
+        let fps = settings.fps;
+        if fps == 0 {
+            return;
+        }
+        if self.frames == 0 {
+            return;
+        }
+        let run_length = AmvDuration::from_frame_count(self.frames, fps);
+        fields::write_u32_le(buf, 84, run_length.to_packed());
+    }
+
+    pub fn write_header(self, buf: &mut [u8]) -> Wrote
+        ensures { λ r. ⌜ Meets (headerCall self (now (buf .entry))) r (now (buf .exit)) ⌝ }
+    {
+        match self.ask_header(buf.len()) {
+            AmvResult::Err(e) => Wrote::refused(e, self),
+            AmvResult::Ok => {
+                let settings = self.settings;
+                settings.put_prelude(buf);
+                Wrote::accepted(self.after_header())
+            }
+        }
+    }
+
+    pub fn write_packet(self, buf: &mut [u8], payload: &[u8], stream: u32) -> Wrote
+        ensures { λ r. ⌜ Meets (packetCall self (now (payload .entry)) stream (now (buf .entry))) r (now (buf .exit)) ⌝ }
+    {
+        match self.ask_packet(payload.len(), stream, buf.len()) {
+            AmvResult::Err(e) => Wrote::refused(e, self),
+            AmvResult::Ok => {
+                put_packet(buf, self.written as usize, payload, stream);
+                Wrote::accepted(self.after_packet(payload.len(), stream))
+            }
+        }
+    }
+
+    pub fn write_trailer(self, buf: &mut [u8]) -> Wrote
+        ensures { λ r. ⌜ Meets (trailerCall self (now (buf .entry))) r (now (buf .exit)) ⌝ }
+    {
+        match self.ask_trailer(buf.len()) {
+            AmvResult::Err(e) => Wrote::refused(e, self),
+            AmvResult::Ok => {
+                put_trailer(buf, self.written as usize);
+                self.patch_run_length(buf);
+                Wrote::accepted(self.after_trailer())
+            }
+        }
+    }
+}
