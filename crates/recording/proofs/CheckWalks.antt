@@ -59,7 +59,7 @@ fails-at : (file : List ℕ) (at : ℕ) (w : Walk) (number : ℕ) (e : AmvError)
     → ((p : Position) (b : Bool) → checkFrom p b w ≡ refused (numbered number (p .cursor))) → Fails file at e
 fails-at file at w number e q r f =
     record {
-      refusal = λ p b c. ap (checkFrom p b) q ∙ f p b ∙ ap (λ (n : ℕ). refused (numbered number n)) c ∙ ap refused (sym r)
+      refusal = λ p b c. ap (checkFrom p b) q ∙ f p b ∙ ap (λ (n : ℕ). refused (numbered number n)) c ∙ ap refused (sym r);
     }
 
 -- what is missing of a payload, where the file reaches its end or not
@@ -85,7 +85,7 @@ kind-means file at size kind x t w k true e =
     k (record {
       there = h;
       on = λ p b. ap (checkFrom p b) w ∙ rw (eq-eqb _ _ m);
-      tags = ap tagsOf w
+      tags = ap tagsOf w;
     })
 kind-means file at size kind x t w k false e =
     let h : length file < at + 8 + size = leb-false (at + 8 + size) (length file) e in
@@ -142,7 +142,7 @@ pub check-ends : (file : List ℕ) (p : Position) (paired : Bool) → Checking f
 unfolding interleaveFrom
 check-ends file p paired c e =
     let last : allPaired file ≡ (paired && even (p .frames .0 + p .blocks .0)) =
-      c .pairs ∙ ap (λ (l : List ℕ). paired && passes (interleaveFrom (p .frames .0 + p .blocks .0) l)) (e .no-tags) ∙ ap (λ (b : Bool). paired && b) (passed (even (p .frames .0 + p .blocks .0)) 65 _) in
+    c .pairs ∙ ap (λ (l : List ℕ). paired && passes (interleaveFrom (p .frames .0 + p .blocks .0) l)) (e .no-tags) ∙ ap (λ (b : Bool). paired && b) (passed (even (p .frames .0 + p .blocks .0)) 65 _) in
     ap (λ (b : Bool). accepted (totalsAt p b)) (sym last) ∙ sym (e .totals p (allPaired file) refl) ∙ c .rest
   where
     passed : (b : Bool) (number place : ℕ) → passes (ask b number place (accepted tt)) ≡ b
@@ -168,13 +168,13 @@ goes-on file p q paired kind size c g e n m =
     let w : walk file (q .cursor) ≡ walk file (p .cursor + (8 + size)) = ap (walk file) n in
     record {
       rest =
-        ap₂ (λ (x : Position) (y : Walk). checkFrom x (allPaired file) y) (sym e) w
-        ∙ sym (g .on p (allPaired file)) ∙ c .rest;
+          ap₂ (λ (x : Position) (y : Walk). checkFrom x (allPaired file) y) (sym e) w
+          ∙ sym (g .on p (allPaired file)) ∙ c .rest;
       pairs =
-        c .pairs
-        ∙ ap (λ (l : List ℕ). paired && passes (interleaveFrom (p .frames .0 + p .blocks .0) l)) (g .tags)
-        ∙ one-paired paired (interleaveAt (kindOf (kindTag kind)) (p .frames .0 + p .blocks .0)) (interleaveFrom (suc (p .frames .0 + p .blocks .0)) (tagsOf (walk file (p .cursor + (8 + size)))))
-        ∙ ap₂ (λ (i : ℕ) (y : Walk). (paired && passes (interleaveAt (kindOf (kindTag kind)) (p .frames .0 + p .blocks .0))) && passes (interleaveFrom i (tagsOf y))) (sym (m ∙ add-one (p .frames .0 + p .blocks .0))) (sym w)
+          c .pairs
+          ∙ ap (λ (l : List ℕ). paired && passes (interleaveFrom (p .frames .0 + p .blocks .0) l)) (g .tags)
+          ∙ one-paired paired (interleaveAt (kindOf (kindTag kind)) (p .frames .0 + p .blocks .0)) (interleaveFrom (suc (p .frames .0 + p .blocks .0)) (tagsOf (walk file (p .cursor + (8 + size)))))
+          ∙ ap₂ (λ (i : ℕ) (y : Walk). (paired && passes (interleaveAt (kindOf (kindTag kind)) (p .frames .0 + p .blocks .0))) && passes (interleaveFrom i (tagsOf y))) (sym (m ∙ add-one (p .frames .0 + p .blocks .0))) (sym w);
     }
 
 pub check-frame : (file : List ℕ) (p : Position) (paired : Bool) (size : ℕ) → Checking file p paired → Goes file (p .cursor) frame size

@@ -3,3 +3,4 @@ pub mod Drain
 pub mod Machine
 pub mod Check
 pub mod CheckSteps
+pub mod Written
