@@ -250,3 +250,16 @@ check-only file b t e =
 
 pub check-is-grammar : CheckIsGrammar
 check-is-grammar = record { accepts = check-accepts; only = check-only }
+
+-- what the strict parse accepts is within the limit
+pub strict-within : (file : List ℕ) (p : AmvPrelude) → strictOf file ≡ accepted p → length file ≤ fileLimit
+unfolding strictOf parseOf
+strict-within file p e =
+    let q = then-accepted (parseOf file) (λ x. validatedOf x file) e in
+    leb-true (length file) fileLimit (ask-passed (withinLimit file) 10 0 _ (q .1) .0)
+
+-- the check by the answer of the strict parse
+pub check-after : (file : List ℕ) (x : Answer AmvPrelude) → strictOf file ≡ x
+    → checkOf file ≡ andThen x (λ _. checkFrom start (passes (interleave (tagsOf (walk file 316)))) (walk file 316))
+unfolding checkOf
+check-after file x e = ap (λ (y : Answer AmvPrelude). andThen y (λ _. checkFrom start (passes (interleave (tagsOf (walk file 316)))) (walk file 316))) e

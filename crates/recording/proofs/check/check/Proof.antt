@@ -1,3 +1,6 @@
+use mathlib.Core.Path.{_≡_, sym, ap, _∙_}
+use Rattle.prelude.specs.Prelude.{saidPrelude}
+use Rattle.recording.proofs.Checks.{strict-within, check-after}
 use borrow.Author.Needs.{needs}
 use Rattle.recording.proofs.check.check.Statement.{statement}
 use Rattle.recording.proofs.check.check.Tie as tie
@@ -20,15 +23,15 @@ enum-told c = search needs
 
 -- src/check.rt:153:36
 check-chunks-requires : tie.Need-check-chunks-requires
-check-chunks-requires c κs = ?
+check-chunks-requires c κs = strict-within _ _ (sym (c .before .before .parse-strict .ensures) ∙ ap saidPrelude (c .enum-told .given .1))
 
 -- src/check.rt:148:1
 returns : tie.Need-returns
-returns c = ?
+returns c = sym (check-after _ _ (sym (c .before .before .before .parse-strict .ensures) ∙ ap saidPrelude (c .before .e .given .1)))
 
 -- src/check.rt:148:1
 returns-2 : tie.Need-returns-2
-returns-2 c = ?
+returns-2 c = c .check-chunks .ensures ∙ sym (check-after _ _ (sym (c .before .before .before .parse-strict .ensures) ∙ ap saidPrelude (c .before .enum-told .given .1)))
 
 pub check-spec : {M : Type 1} → statement M
 check-spec =

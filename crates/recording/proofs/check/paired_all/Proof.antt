@@ -1,3 +1,4 @@
+use borrow.Author.Tests.{not-true, not-false}
 use Rattle.recording.proofs.check.paired_all.Statement.{statement}
 use Rattle.recording.proofs.check.paired_all.Tie as tie
 use Rattle.recording.proofs.check.paired_all.Reads as reads
@@ -5,11 +6,11 @@ use Rattle.recording.proofs.check.paired_all.Lts as lts
 
 -- src/check.rt:109:9
 returns : tie.Need-returns
-returns c = ?
+returns c = rw (not-true (c .before .args .paired) (c .if1 .taken))
 
 -- src/check.rt:105:1
 returns-2 : tie.Need-returns-2
-returns-2 c = ?
+returns-2 c = rw (not-false (c .before .args .paired) (c .if1 .left))
 
 pub paired-all-spec : {M : Type 1} → statement M
 paired-all-spec = tie.close (tie.spec returns returns-2)

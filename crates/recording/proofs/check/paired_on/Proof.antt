@@ -1,3 +1,6 @@
+use mathlib.Core.Path.{_≡_, sym, ap, _∙_}
+use borrow.Author.Tests.{not-true, not-false}
+use Rattle.error.specs.Refusal.{said}
 use borrow.Author.Needs.{needs}
 use Rattle.recording.proofs.check.paired_on.Statement.{statement}
 use Rattle.recording.proofs.check.paired_on.Tie as tie
@@ -7,7 +10,7 @@ use Rattle.chunk.proofs.interleave.interleave_at.Reads as interleave-at-reads
 
 -- src/check.rt:97:9
 returns : tie.Need-returns
-returns c = ?
+returns c = rw (not-true (c .before .args .paired) (c .if1 .taken))
 
 -- src/check.rt:99:11
 interleave-at-requires : tie.Need-interleave-at-requires
@@ -23,11 +26,11 @@ enum-told-2 c = search needs
 
 -- src/check.rt:93:1
 returns-2 : tie.Need-returns-2
-returns-2 c = ?
+returns-2 c = rw (not-false (c .before .before .before .before .args .paired) (c .before .before .before .if1 .left), sym (c .before .before .interleave-at .ensures) ∙ ap said (c .enum-told .given .1))
 
 -- src/check.rt:93:1
 returns-3 : tie.Need-returns-3
-returns-3 c = ?
+returns-3 c = rw (not-false (c .before .before .before .before .args .paired) (c .before .before .before .if1 .left), sym (c .before .before .interleave-at .ensures) ∙ ap said (c .enum-told2 .given .1))
 
 pub paired-on-spec : {M : Type 1} → statement M
 paired-on-spec =

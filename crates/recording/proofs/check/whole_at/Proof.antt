@@ -1,3 +1,5 @@
+use mathlib.Core.Path.{_≡_, sym, _∙_}
+use Rattle.recording.proofs.CheckParts.{whole-yes, whole-no}
 use borrow.Author.Needs.{needs}
 use Rattle.recording.proofs.check.whole_at.Statement.{statement}
 use Rattle.recording.proofs.check.whole_at.Tie as tie
@@ -23,11 +25,11 @@ enum-told-2 c = search needs
 
 -- src/check.rt:51:1
 returns : tie.Need-returns
-returns c = ?
+returns c = let a = c .before .before .before .before .args in sym (whole-yes (a .file .now) (a .at) (a .size) _ _ (sym (c .before .before .body-at .ensures) ∙ c .enum-told .given .1))
 
 -- src/check.rt:51:1
 returns-2 : tie.Need-returns-2
-returns-2 c = ?
+returns-2 c = let a = c .before .before .before .before .args in sym (whole-no (a .file .now) (a .at) (a .size) (sym (c .before .before .body-at .ensures) ∙ c .enum-told2 .given .1))
 
 pub whole-at-spec : {M : Type 1} → statement M
 whole-at-spec =
