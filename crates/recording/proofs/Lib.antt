@@ -5,3 +5,4 @@ pub mod Tables
 pub mod Seeks
 pub mod Readings
 pub mod Lists
+pub mod Writes
