@@ -6,3 +6,4 @@ pub mod Seeks
 pub mod Readings
 pub mod Lists
 pub mod CheckParts
+pub mod Writes

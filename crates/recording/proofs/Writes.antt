@@ -1,0 +1,372 @@
+-- Every list of writing calls that completes a file leaves a finished one, which drains to the accepted packets. Assumes nothing.
+use mathlib.Core.Path.{_≡_, refl, sym, ap, _∙_}
+use mathlib.Core.Logic.{_⊎_, inl, inr}
+use mathlib.Core.Bool.{Bool, true, false, cond, _&&_}
+use mathlib.Core.List.{List, [], _∷_, _++_, append-assoc, append-nil, List·Memᴰ, List·Memᴰ·not-nil, List·Memᴰ·cases-cons}
+use Prim.Native.Nat.{ℕ, zero, suc, _+_, _/_, _^_, _≤_, _<_}
+use native.Mathlib.Omega.{arith}
+use borrow.Author.Tests.{ne-eqb}
+use lib.Dec.{eqb, ltb}
+use lib.ListN.{length, length-take}
+use lib.Seq.{take-append-le, drop-append-le}
+use Rattle.error.specs.Answer.{Answer, accepted, refused}
+use Rattle.error.specs.declared.Refusal.{Refusal}
+use Rattle.fields.specs.File.{fileLimit}
+use Rattle.fields.specs.Le.{le, leBytes, put}
+use Rattle.fields.proofs.Laws.{length-leBytes}
+use Rattle.duration.specs.Duration.{packedOf, ofSeconds, runLength}
+use Rattle.duration.specs.declared.AmvDuration.{AmvDuration}
+use Rattle.prelude.specs.Built.{preludeBytes}
+use Rattle.prelude.specs.Prelude.{strictOf}
+use Rattle.prelude.proofs.BuiltLaws.{length-prelude, patched, strict-built}
+use Rattle.chunk_index.specs.Walk.{Kind, frame, sound, Walk, walk}
+use Rattle.chunk_index.specs.Walk as walks
+use Rattle.chunk_index.specs.Chunks.{Chunk, chunkOf, chunkBytes, chunksBytes, trailerBytes, Lengths, walkOf}
+use Rattle.muxer.specs.Writer.{fresh, Outcome, packetBytes, patchRunLength, headerQuestions, headerCall, packetCall, trailerCall}
+use Rattle.muxer.specs.Writer as muxer
+use Rattle.muxer.specs.declared.Settings.{Settings}
+use Rattle.muxer.specs.declared.Writer.{Writer}
+use Rattle.muxer.proofs.Steps.{Open, HeaderPassed, header-passed}
+use Rattle.muxer.proofs.Writes.{fileOf, preludeFor, outcome-accepted, header-refused, header-accepted, packet-refused, packet-accepted, trailer-refused, trailer-accepted}
+use Rattle.recording.specs.Drain.{drain, drainFrom}
+use Rattle.recording.specs.Grammar.{Passes, Finished}
+use Rattle.recording.specs.Written.{WriteCall, header, packet, trailer, writeStep, kept, acceptedCalls, writtenFile, Sent, sentBy, sentIn, Proper, Completed, FileOf, Writes}
+use Rattle.recording.proofs.Checks.{finished-walk}
+
+-- ---- the run length fits its field
+
+packed-small : (d : AmvDuration) → d .seconds < 256 → d .minutes < 256 → d .hours < 256 → packedOf d < 256 ^ 4
+unfolding packedOf le
+packed-small d s m h = omega arith
+
+run-small : (frames fps : ℕ) → packedOf (runLength frames fps) < 256 ^ 4
+unfolding runLength ofSeconds
+run-small frames fps = go (eqb fps 0)
+  where
+    go : (b : Bool) → packedOf (cond b (record { seconds = 0; minutes = 0; hours = 0 }) (ofSeconds (frames / fps))) < 256 ^ 4
+    go true = packed-small _ (omega arith) (omega arith) (omega arith)
+    go false = packed-small _ (omega arith) (omega arith) (omega arith)
+
+-- ---- chunks, one more
+
+chunks-snoc : (cs : List Chunk) (c : Chunk) → chunksBytes (cs ++ (c ∷ [])) ≡ chunksBytes cs ++ chunkBytes c
+unfolding chunksBytes
+chunks-snoc [] c = append-nil (chunkBytes c)
+chunks-snoc (x ∷ cs) c = rw (chunks-snoc cs c) (sym (append-assoc (chunkBytes x) (chunksBytes cs) (chunkBytes c)))
+
+lengths-snoc : (cs : List Chunk) (kind : Kind) (payload : List ℕ) → Lengths cs → length payload ≤ 4294967295 → Lengths (cs ++ (chunkOf kind payload ∷ []))
+lengths-snoc [] kind payload l h = (h, tt)
+lengths-snoc (chunkOf k p ∷ cs) kind payload l h = (l .0, lengths-snoc cs kind payload (l .1) h)
+
+-- a write within the first of two lists
+put-front : (xs ys : List ℕ) (off : ℕ) (bytes : List ℕ) → off + length bytes ≤ length xs → put (xs ++ ys) off bytes ≡ put xs off bytes ++ ys
+unfolding put
+put-front xs ys off bytes h = rw (take-append-le off xs ys (omega arith), drop-append-le (off + length bytes) xs ys h) (simp append-assoc)
+
+-- ---- a call's chunk, and what chunks send
+
+abbrev kindFor : ℕ → Kind
+kindFor zero = frame
+kindFor (suc n) = sound
+
+abbrev chunksFor : WriteCall → List Chunk
+chunksFor header = []
+chunksFor (packet payload stream) = chunkOf (kindFor stream) payload ∷ []
+chunksFor trailer = []
+
+abbrev streamFor : Kind → ℕ
+streamFor frame = 0
+streamFor sound = 1
+
+abbrev sentOf : List Chunk → List Sent
+sentOf [] = []
+sentOf (chunkOf kind payload ∷ cs) = record { stream = streamFor kind; payload = payload } ∷ sentOf cs
+
+packet-chunk : (stream : ℕ) (payload : List ℕ) → packetBytes stream payload ≡ chunkBytes (chunkOf (kindFor stream) payload)
+unfolding packetBytes chunkBytes
+packet-chunk zero payload = refl
+packet-chunk (suc n) payload = rw (ne-eqb (suc n) 0 (λ e. omega arith))
+
+packet-sent : (stream : ℕ) (payload : List ℕ) → stream ≤ 1 → sentOf (chunksFor (packet payload stream)) ≡ sentBy (packet payload stream ∷ [])
+unfolding sentBy
+packet-sent zero payload h = refl
+packet-sent (suc zero) payload h = refl
+packet-sent (suc (suc n)) payload h = absurd (omega arith)
+
+sent-append : (cs ds : List Chunk) → sentOf (cs ++ ds) ≡ sentOf cs ++ sentOf ds
+sent-append [] ds = refl
+sent-append (chunkOf kind payload ∷ cs) ds = ap (λ (l : List Sent). record { stream = streamFor kind; payload = payload } ∷ l) (sent-append cs ds)
+
+sent-cons : (c : WriteCall) (calls : List WriteCall) → sentBy (c ∷ calls) ≡ sentBy (c ∷ []) ++ sentBy calls
+unfolding sentBy
+sent-cons header calls = refl
+sent-cons (packet payload stream) calls = refl
+sent-cons trailer calls = refl
+
+sent-drained : (frames samples : ℕ) (cs : List Chunk) → sentIn (drainFrom frames samples cs) ≡ sentOf cs
+unfolding sentIn drainFrom
+sent-drained frames samples [] = refl
+sent-drained frames samples (chunkOf frame payload ∷ cs) =
+    ap (λ (l : List Sent). record { stream = 0; payload = payload } ∷ l) (sent-drained _ _ cs)
+sent-drained frames samples (chunkOf sound payload ∷ cs) =
+    ap (λ (l : List Sent). record { stream = 1; payload = payload } ∷ l) (sent-drained _ _ cs)
+
+-- ---- the file by the writer's state
+
+-- a header that was accepted came first
+header-fresh : (w : Writer) (buf : List ℕ) → headerCall w buf .answer ≡ accepted tt → HeaderPassed w (length buf)
+unfolding headerCall
+header-fresh w buf e = header-passed w (length buf) (outcome-accepted (headerQuestions w (length buf)) w buf _ _ e .0)
+
+false-true : {A : Type 0} {b : Bool} → b ≡ true → b ≡ false → A
+false-true p q = let z : _≡_ {A = ℕ} 0 1 = cc in absurd (omega arith)
+
+module _ (s : Settings) (ok : Proper s) where
+  abbrev preludeWith : ℕ → List ℕ
+  preludeWith duration = preludeBytes (s .width) (s .height) (s .fps) duration (s .rate) (s .channels)
+
+  passes-with : (duration : ℕ) → duration < 256 ^ 4 → Passes (preludeWith duration)
+  passes-with duration h = (
+    _,
+    ap (λ (n : ℕ). strictOf (preludeBytes (s .width) (s .height) (s .fps) duration (s .rate) n)) (ok .one-channel)
+        ∙ strict-built
+        (record {
+          width-held = omega (arith, ok .width-held);
+          height-held = omega (arith, ok .height-held);
+          fps-held = omega (arith, ok .fps-held);
+          duration-held = h;
+          rate-held = omega (arith, ok .rate-held);
+          channels-held = omega arith;
+        })
+        (ok .fps-positive),
+  )
+
+  -- the patched file is one with another duration
+  patch-front : (w : Writer) (rest : List ℕ) → (d : ℕ) × (d < 256 ^ 4) × (patchRunLength w (preludeWith 0 ++ rest) ≡ preludeWith d ++ rest)
+  unfolding patchRunLength
+  patch-front w rest = go (ltb 0 (w .settings .fps) && ltb 0 (w .frames))
+    where
+      n : ℕ
+      n = packedOf (runLength (w .frames) (w .settings .fps))
+
+      go : (b : Bool) → (d : ℕ) × (d < 256 ^ 4) × (cond b (put (preludeWith 0 ++ rest) 84 (leBytes 4 n)) (preludeWith 0 ++ rest) ≡ preludeWith d ++ rest)
+      go true =
+          let l : length (leBytes 4 n) ≡ 4 = length-leBytes 4 n in
+          let k : length (preludeWith 0) ≡ 316 = length-prelude (s .width) (s .height) (s .fps) 0 (s .rate) (s .channels) in (
+            n,
+            run-small (w .frames) (w .settings .fps),
+            put-front (preludeWith 0) rest 84 (leBytes 4 n) (omega arith)
+                ∙ ap (λ (xs : List ℕ). xs ++ rest) (patched (s .width) (s .height) (s .fps) 0 (s .rate) (s .channels) n),
+          )
+      go false = (0, omega arith, refl)
+
+  -- not begun, and no chunk
+  record Idle (w : Writer) (cs : List Chunk) : Type 0 where
+    begun : w .begun ≡ false
+    going : w .ended ≡ false
+    same : w .settings ≡ s
+    none : cs ≡ []
+
+  -- begun: the prelude and the chunks so far
+  record Going (w : Writer) (buf : List ℕ) (cs : List Chunk) : Type 0 where
+    ready : Open w
+    file : fileOf w buf ≡ preludeWith 0 ++ chunksBytes cs
+    lengths : Lengths cs
+
+  record Ended (w : Writer) (buf : List ℕ) (cs : List Chunk) : Type 0 where
+    begun : w .begun ≡ true
+    ended : w .ended ≡ true
+    finished : Finished (fileOf w buf) cs
+
+  data State (w : Writer) (buf : List ℕ) (cs : List Chunk) : Type 0 where
+    idle : Idle w cs → State w buf cs
+    under-way : Going w buf cs → State w buf cs
+    over : Ended w buf cs → State w buf cs
+
+  is-idle : (w : Writer) (buf : List ℕ) (cs : List Chunk) → State w buf cs → w .begun ≡ false → Idle w cs
+  is-idle w buf cs (idle i) e = i
+  is-idle w buf cs (under-way i) e = false-true (i .ready .begun) e
+  is-idle w buf cs (over i) e = false-true (i .begun) e
+
+  is-going : (w : Writer) (buf : List ℕ) (cs : List Chunk) → State w buf cs → Open w → Going w buf cs
+  is-going w buf cs (idle i) o = false-true (o .begun) (i .begun)
+  is-going w buf cs (under-way i) o = i
+  is-going w buf cs (over i) o = false-true (i .ended) (o .going)
+
+  is-over : (w : Writer) (buf : List ℕ) (cs : List Chunk) → State w buf cs → w .ended ≡ true → Finished (fileOf w buf) cs
+  is-over w buf cs (idle i) e = false-true e (i .going)
+  is-over w buf cs (under-way i) e = false-true e (i .ready .going)
+  is-over w buf cs (over i) e = i .finished
+
+  -- ---- one call
+
+  data Turn (w : Writer) (buf : List ℕ) (cs : List Chunk) (c : WriteCall) (o : Outcome) : Type 0 where
+    stays : (r : Refusal) → o ≡ record { answer = refused r; writer = w; buffer = buf } → Turn w buf cs c o
+    moves : w .ended ≡ false → o .answer ≡ accepted tt → State (o .writer) (o .buffer) (cs ++ chunksFor c)
+        → sentOf (chunksFor c) ≡ sentBy (c ∷ []) → (c ≡ trailer → o .writer .ended ≡ true) → Turn w buf cs c o
+
+  refuses : (w : Writer) (buf : List ℕ) (cs : List Chunk) (c : WriteCall) (o : Outcome) (r : Refusal) → o .answer ≡ refused r
+      → (o .writer ≡ w) × (o .buffer ≡ buf) → Turn w buf cs c o
+  refuses w buf cs c o r e k = stays r (λ i. record { answer = e i; writer = k .0 i; buffer = k .1 i })
+
+  header-turn : (w : Writer) (buf : List ℕ) (cs : List Chunk) → State w buf cs → Turn w buf cs header (headerCall w buf)
+  header-turn w buf cs i = go _ refl
+    where
+      go : (a : Answer Unit) → headerCall w buf .answer ≡ a → Turn w buf cs header (headerCall w buf)
+      go (refused r) e = refuses w buf cs header (headerCall w buf) r e (header-refused w buf e)
+      go (accepted u) e =
+          let p = header-fresh w buf e in
+          let t = header-accepted w buf e in
+          let k = is-idle w buf cs i (p .fresh) in
+          moves (p .going) e
+          (under-way (record {
+            ready = rw (t .writer) (t .ready);
+            file = t .file ∙ ap preludeFor (k .same) ∙ rw (append-nil, k .none) (unfold chunksBytes in (sym (append-nil (preludeWith 0))));
+            lengths = rw (append-nil, k .none) tt;
+          }))
+          (unfold sentBy in refl)
+          (λ q. let z : _≡_ {A = ℕ} 0 1 = cc in absurd (omega arith))
+
+  packet-turn : (w : Writer) (buf : List ℕ) (cs : List Chunk) (payload : List ℕ) (stream : ℕ) → State w buf cs
+      → Turn w buf cs (packet payload stream) (packetCall w payload stream buf)
+  packet-turn w buf cs payload stream i = go _ refl
+    where
+      go : (a : Answer Unit) → packetCall w payload stream buf .answer ≡ a → Turn w buf cs (packet payload stream) (packetCall w payload stream buf)
+      go (refused r) e = refuses w buf cs (packet payload stream) (packetCall w payload stream buf) r e (packet-refused w payload stream buf e)
+      go (accepted u) e =
+          let t = packet-accepted w payload stream buf e in
+          let c : Chunk = chunkOf (kindFor stream) payload in
+          let k = is-going w buf cs i (t .passed .ready) in
+          moves (t .passed .ready .going) e
+          (under-way (record {
+            ready = rw (t .writer) (t .ready);
+            file = t .file
+                ∙ ap (λ (xs : List ℕ). xs ++ packetBytes stream payload) (k .file)
+                ∙ ap (λ (xs : List ℕ). (preludeWith 0 ++ chunksBytes cs) ++ xs) (packet-chunk stream payload)
+                ∙ append-assoc (preludeWith 0) (chunksBytes cs) (chunkBytes c)
+                ∙ ap (λ (xs : List ℕ). preludeWith 0 ++ xs) (sym (chunks-snoc cs c));
+            lengths = lengths-snoc cs (kindFor stream) payload (k .lengths) (t .passed .short);
+          }))
+          (packet-sent stream payload (t .passed .known))
+          (λ q. let z : _≡_ {A = ℕ} 0 1 = cc in absurd (omega arith))
+
+  -- a file of the prelude, the chunks and the trailer, patched
+  closed : (w : Writer) (buf file : List ℕ) (cs : List Chunk) → Going w buf cs → file ≡ patchRunLength w (fileOf w buf ++ muxer.trailerBytes)
+      → length file ≤ fileLimit → Finished file cs
+  closed w buf file cs k e l =
+      let t : muxer.trailerBytes ≡ trailerBytes = unfold trailerBytes leBytes in refl in
+      let p = patch-front w (chunksBytes cs ++ trailerBytes) in
+      record {
+        prelude = preludeWith (p .0);
+        passes = passes-with (p .0) (p .1);
+        whole = length-prelude (s .width) (s .height) (s .fps) (p .0) (s .rate) (s .channels);
+        is = e
+            ∙ ap (λ (xs : List ℕ). patchRunLength w (xs ++ muxer.trailerBytes)) (k .file)
+            ∙ ap (λ (xs : List ℕ). patchRunLength w ((preludeWith 0 ++ chunksBytes cs) ++ xs)) t
+            ∙ ap (λ (xs : List ℕ). patchRunLength w xs) (append-assoc (preludeWith 0) (chunksBytes cs) trailerBytes)
+            ∙ p .2;
+        fits = l;
+        lengths = k .lengths;
+      }
+
+  trailer-turn : (w : Writer) (buf : List ℕ) (cs : List Chunk) → State w buf cs → Turn w buf cs trailer (trailerCall w buf)
+  trailer-turn w buf cs i = go _ refl
+    where
+      go : (a : Answer Unit) → trailerCall w buf .answer ≡ a → Turn w buf cs trailer (trailerCall w buf)
+      go (refused r) e = refuses w buf cs trailer (trailerCall w buf) r e (trailer-refused w buf e)
+      go (accepted u) e =
+          let t = trailer-accepted w buf e in
+          let r = t .passed .ready in
+          let k = is-going w buf cs i r in
+          let n : trailerCall w buf .writer .written ≡ w .written + 8 = ap (λ (x : Writer). x .written) (t .writer) in
+          let m = t .passed .limit in
+          let l : length (fileOf (trailerCall w buf .writer) (trailerCall w buf .buffer)) ≤ fileLimit =
+          omega (arith, length-take (trailerCall w buf .writer .written) (trailerCall w buf .buffer)) in
+          moves (r .going) e
+          (over (record {
+            begun = ap (λ (x : Writer). x .begun) (t .writer) ∙ r .begun;
+            ended = ap (λ (x : Writer). x .ended) (t .writer);
+            finished = rw append-nil (closed w buf _ cs k (t .file) l);
+          }))
+          (unfold sentBy in refl)
+          (λ q. ap (λ (x : Writer). x .ended) (t .writer))
+
+  turn : (w : Writer) (buf : List ℕ) (cs : List Chunk) (c : WriteCall) → State w buf cs → Turn w buf cs c (writeStep w buf c)
+  unfolding writeStep
+  turn w buf cs header i = header-turn w buf cs i
+  turn w buf cs (packet payload stream) i = packet-turn w buf cs payload stream i
+  turn w buf cs trailer i = trailer-turn w buf cs i
+
+  -- ---- a list of calls
+
+  -- more chunks, which send what the accepted calls do
+  record Left (cs : List Chunk) (file : List ℕ) (calls : List WriteCall) : Type 0 where
+    chunks : List Chunk
+    finished : Finished file (cs ++ chunks)
+    sends : sentOf chunks ≡ sentBy calls
+
+  abbrev Ends : Writer → List ℕ → List WriteCall → Type 0
+  Ends w buf calls = List·Memᴰ trailer (acceptedCalls w buf calls) ⊎ (w .ended ≡ true)
+
+  left-on : (cs : List Chunk) (file : List ℕ) (c : WriteCall) (calls : List WriteCall) → sentOf (chunksFor c) ≡ sentBy (c ∷ [])
+      → Left (cs ++ chunksFor c) file calls → Left cs file (c ∷ calls)
+  left-on cs file c calls e l =
+      record {
+        chunks = chunksFor c ++ l .chunks;
+        finished = rw (← append-assoc cs (chunksFor c) (l .chunks)) (l .finished);
+        sends = sent-append (chunksFor c) (l .chunks)
+            ∙ ap (λ (x : List Sent). x ++ sentOf (l .chunks)) e
+            ∙ ap (λ (x : List Sent). sentBy (c ∷ []) ++ x) (l .sends)
+            ∙ sym (sent-cons c calls);
+      }
+
+  one-on : (w : Writer) (buf : List ℕ) (cs : List Chunk) (c : WriteCall) (calls : List WriteCall) (o : Outcome) → State w buf cs → Turn w buf cs c o
+      → (List·Memᴰ trailer (kept (o .answer) c (acceptedCalls (o .writer) (o .buffer) calls)) ⊎ (w .ended ≡ true))
+      → ((v : Writer) (b : List ℕ) (ds : List Chunk) → State v b ds → Ends v b calls → Left ds (writtenFile v b calls) (acceptedCalls v b calls))
+      → Left cs (writtenFile (o .writer) (o .buffer) calls) (kept (o .answer) c (acceptedCalls (o .writer) (o .buffer) calls))
+  one-on w buf cs c calls o i (stays r e) m ih = rw e (ih w buf cs i (rw e at m))
+  one-on w buf cs c calls o i (moves n e j q f) (inr m) ih = false-true m n
+  one-on w buf cs c calls o i (moves n e j q f) (inl m) ih =
+      let l : List WriteCall = acceptedCalls (o .writer) (o .buffer) calls in
+      let k : List·Memᴰ trailer (c ∷ l) = rw e at m in
+      let h : Ends (o .writer) (o .buffer) calls = elim (List·Memᴰ·cases-cons k) [ inl x ↦ inr (f (sym x)) | inr x ↦ inl x ] in
+      rw e (left-on cs (writtenFile (o .writer) (o .buffer) calls) c l q (ih (o .writer) (o .buffer) (cs ++ chunksFor c) j h))
+
+  run : (w : Writer) (buf : List ℕ) (cs : List Chunk) (calls : List WriteCall) → State w buf cs → Ends w buf calls
+      → Left cs (writtenFile w buf calls) (acceptedCalls w buf calls)
+  unfolding writtenFile acceptedCalls
+  run w buf cs [] i (inl m) = absurd (List·Memᴰ·not-nil m)
+  run w buf cs [] i (inr e) = record { chunks = []; finished = rw append-nil (is-over w buf cs i e); sends = unfold sentBy in refl }
+  run w buf cs (c ∷ calls) i m = one-on w buf cs c calls (writeStep w buf c) i (turn w buf cs c i) m (λ v b ds j h. run v b ds calls j h)
+
+-- ---- demand 3 for the writer
+
+written : (s : Settings) (buf : List ℕ) (calls : List WriteCall) → Completed s buf calls → FileOf s buf calls
+written s buf calls c =
+    let l = run s (c .proper) (fresh s) buf [] calls (idle (record { begun = refl; going = refl; same = refl; none = refl })) (inl (c .ended)) in
+    record { chunks = l .chunks; finished = l .finished; drains = sent-drained 0 0 (l .chunks) ∙ l .sends }
+
+-- the chunks of a walk
+abbrev chunksIn : Walk → List Chunk
+chunksIn (walks.stop r) = []
+chunksIn (walks.chunk kind payload missing rest) = chunkOf kind payload ∷ chunksIn rest
+
+chunks-walked : (cs : List Chunk) (n : ℕ) → chunksIn (walkOf cs n) ≡ cs
+unfolding walkOf
+chunks-walked [] n = refl
+chunks-walked (chunkOf kind payload ∷ cs) n = ap (λ (l : List Chunk). chunkOf kind payload ∷ l) (chunks-walked cs n)
+
+-- a finished file is that of one list of chunks
+pub one-list : (file : List ℕ) (cs ds : List Chunk) → Finished file cs → Finished file ds → cs ≡ ds
+one-list file cs ds f g =
+    sym (chunks-walked cs 0) ∙ ap chunksIn (sym (finished-walk file cs f) ∙ finished-walk file ds g) ∙ chunks-walked ds 0
+
+pub writes : Writes
+writes =
+    record {
+      finish = written;
+      apart = λ s t buf other calls more c d e.
+          let f = written s buf calls c in
+          let g = written t other more d in
+          sym (f .drains) ∙ ap (λ (cs : List Chunk). sentIn (drain cs)) (one-list _ (f .chunks) (g .chunks) (f .finished) (rw e (g .finished))) ∙ g .drains;
+    }
