@@ -7,7 +7,7 @@ use borrow.Author.Tests.{leb-true}
 use lib.Dec.{leb}
 use lib.ListN.{length, drop, getD}
 use lib.Seq.{drop-cons}
-use Rattle.error.specs.Answer.{Answer, accepted, ask, andThen}
+use Rattle.error.specs.Answer.{Answer, accepted, numbered, ask, andThen}
 use Rattle.error.proofs.Answers.{then-passed, ask-passed}
 use Rattle.prelude.specs.Layout.{layout, past, askWord, askItem, askItems, movi}
 use Rattle.fields.specs.File.{withinLimit}
@@ -29,7 +29,7 @@ items-drop file (suc n) (x ∷ items) e = items-drop file n items (then-passed (
 pub layout-length : (file : List ℕ) → askItems file layout ≡ accepted tt → 316 ≤ length file
 unfolding layout askItems askWord
 layout-length file e =
-    let last : askWord file 312 movi 12 ≡ accepted tt = then-passed (askWord file 312 movi 12) (λ _. accepted tt) (items-drop file 21 layout e) .0 in
+    let last : askWord file 312 movi (numbered 12 312) ≡ accepted tt = then-passed (askWord file 312 movi (numbered 12 312)) (λ _. accepted tt) (items-drop file 21 layout e) .0 in
     leb-true _ _ (ask-passed (leb 316 (length file)) 11 312 _ last .0)
 
 pub parsed-length : (file : List ℕ) {p : AmvPrelude} → parseOf file ≡ accepted p → 316 ≤ length file

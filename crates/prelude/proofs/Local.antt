@@ -10,7 +10,8 @@ use borrow.Author.Tests.{le-leb, lt-leb, leb-true}
 use lib.Dec.{leb}
 use lib.ListN.{length, take, drop, getD, length-take}
 use lib.Seq.{take-take, take-nil, getD-take, take-at}
-use Rattle.error.specs.Answer.{Answer, accepted, ask, andThen}
+use Rattle.error.specs.Answer.{Answer, accepted, numbered, ask, andThen}
+use Rattle.error.specs.declared.Refusal.{Refusal}
 use Rattle.fields.proofs.Laws.{le-take}
 use Rattle.fields.specs.File.{withinLimit, fileLimit}
 use Rattle.parse.specs.Header.{headerFields}
@@ -38,13 +39,13 @@ reach-local file n h =
       | no l ↦ lt-leb n (length (take 316 file)) (simp length-take (omega (arith, lt-of-not-le l))) ∙ sym (lt-leb n (length file) (lt-of-not-le l))
     ]
 
-word-local : (file : List ℕ) (place value number : ℕ) → place + 4 ≤ 316 → askWord (take 316 file) place value number ≡ askWord file place value number
+word-local : (file : List ℕ) (place value : ℕ) (wrong : Refusal) → place + 4 ≤ 316 → askWord (take 316 file) place value wrong ≡ askWord file place value wrong
 unfolding askWord
-word-local file place value number h = rw (reach-local file (place + 4) h, le-take 4 316 file place h)
+word-local file place value wrong h = rw (reach-local file (place + 4) h, le-take 4 316 file place h)
 
 item-local : (file : List ℕ) (item : LayoutItem) → Within item → askItem (take 316 file) item ≡ askItem file item
-item-local file (Tag place value) h = word-local file place value 12 h
-item-local file (Size place value) h = word-local file place value 13 h
+item-local file (Tag place value) h = word-local file place value (numbered 12 place) h
+item-local file (Size place value) h = word-local file place value (numbered 13 place) h
 item-local file (Body place len) h = unfold askBody in rw (reach-local file (place + len) h)
 
 items-local : (file : List ℕ) (items : List LayoutItem) → AllWithin items → askItems (take 316 file) items ≡ askItems file items

@@ -1,9 +1,11 @@
 -- The layout of the prelude. Assumes nothing.
 use Prim.Native.Nat.{ℕ, _+_}
+use mathlib.Core.Bool.{cond}
 use mathlib.Core.List.{List, [], _∷_}
 use lib.Dec.{leb, eqb}
 use lib.ListN.{length}
-use Rattle.error.specs.Answer.{Answer, accepted, ask, andThen}
+use Rattle.error.specs.Answer.{Answer, accepted, refused, numbered, ask, andThen}
+use Rattle.error.specs.declared.Refusal.{Refusal}
 use Rattle.fields.specs.Le.{le}
 use Rattle.prelude.specs.declared.layout.LayoutItem.{LayoutItem}
 use Rattle.prelude.specs.declared.layout.LayoutItem.the-variants.{Tag, Size, Body}
@@ -49,18 +51,17 @@ abbrev pub past : LayoutItem
 past = Body 316 0
 
 -- "For each: does the file reach its end? 11. Tag equal? 12. Size equal? 13. Place: its start."
-unfoldable pub askWord : List ℕ → ℕ → ℕ → ℕ → Answer Unit
-askWord file place value number =
+unfoldable pub askWord : List ℕ → ℕ → ℕ → Refusal → Answer Unit
+askWord file place value wrong =
     ask (leb (place + 4) (length file)) 11 place
-    (ask (eqb (le 4 file place) value) number place
-    (accepted tt))
+    (cond (eqb (le 4 file place) value) (accepted tt) (refused wrong))
 
 unfoldable pub askBody : List ℕ → ℕ → ℕ → Answer Unit
 askBody file place width = ask (leb (place + width) (length file)) 11 place (accepted tt)
 
 abbrev pub askItem : List ℕ → LayoutItem → Answer Unit
-askItem file (Tag place value) = askWord file place value 12
-askItem file (Size place value) = askWord file place value 13
+askItem file (Tag place value) = askWord file place value (numbered 12 place)
+askItem file (Size place value) = askWord file place value (numbered 13 place)
 askItem file (Body place width) = askBody file place width
 
 unfoldable pub askItems : List ℕ → List LayoutItem → Answer Unit

@@ -11,7 +11,7 @@ ghost use Prim.Native.Nat.{_+_, _≤_};
 ghost use lib.ListN.{length};
 ghost use lib.Dec.{leb};
 ghost use Rattle.error.specs.Answer.{accepted};
-ghost use Rattle.error.specs.Refusal.{said};
+ghost use Rattle.error.specs.Refusal.{refusalOf, said};
 ghost use Rattle.prelude.specs.Layout.{layout, askWord, askBody, askItem, askItems};
 ghost use Rattle.prelude.specs.Prelude.{saidPrelude, preludeFields, parseOf, zeros, zeroRanges, validatedOf, strictOf};
 
@@ -39,28 +39,15 @@ fn reaches(file: &[u8], place: usize, len: usize) -> bool
     true
 }
 
-fn require_tag(file: &[u8], place: usize, expected: u32) -> AmvResult
-    ensures { λ r. ⌜ said r ≡ askWord (now (file .entry)) place expected 12 ⌝ }
+// A tag or a size: the four bytes are there, and they are the ones expected, or else it is refused as wrong.
+fn require_word(file: &[u8], place: usize, expected: u32, wrong: AmvError) -> AmvResult
+    ensures { λ r. ⌜ said r ≡ askWord (now (file .entry)) place expected (refusalOf wrong) ⌝ }
 {
     if reaches(file, place, 4) {
         if fields::read_u32_le(file, place) == expected {
             AmvResult::Ok
         } else {
-            AmvResult::Err(AmvError::WrongTag(place as u64))
-        }
-    } else {
-        AmvResult::Err(AmvError::Cut(place as u64))
-    }
-}
-
-fn require_size(file: &[u8], place: usize, expected: u32) -> AmvResult
-    ensures { λ r. ⌜ said r ≡ askWord (now (file .entry)) place expected 13 ⌝ }
-{
-    if reaches(file, place, 4) {
-        if fields::read_u32_le(file, place) == expected {
-            AmvResult::Ok
-        } else {
-            AmvResult::Err(AmvError::WrongSize(place as u64))
+            AmvResult::Err(wrong)
         }
     } else {
         AmvResult::Err(AmvError::Cut(place as u64))
@@ -81,8 +68,18 @@ fn require_item(file: &[u8], item: LayoutItem) -> AmvResult
     ensures { λ r. ⌜ said r ≡ askItem (now (file .entry)) item ⌝ }
 {
     match item {
-        LayoutItem::Tag(place, value) => require_tag(file, place, value),
-        LayoutItem::Size(place, value) => require_size(file, place, value),
+        LayoutItem::Tag(place, value) => require_word(
+            file,
+            place,
+            value,
+            AmvError::WrongTag(place as u64),
+        ),
+        LayoutItem::Size(place, value) => require_word(
+            file,
+            place,
+            value,
+            AmvError::WrongSize(place as u64),
+        ),
         LayoutItem::Body(place, len) => require_body(file, place, len),
     }
 }

@@ -1,28 +1,26 @@
-use mathlib.Core.Path.{sym, ap, _∙_}
 use borrow.Author.Needs.{needs}
 use Rattle.prelude.proofs.prelude.require_item.Statement.{statement}
 use Rattle.prelude.proofs.prelude.require_item.Tie as tie
 use Rattle.prelude.proofs.prelude.require_item.Reads as reads
 use Rattle.prelude.proofs.prelude.require_item.Lts as lts
 use Rattle.prelude.proofs.prelude.require_body.Reads as require-body-reads
-use Rattle.prelude.proofs.prelude.require_size.Reads as require-size-reads
-use Rattle.prelude.proofs.prelude.require_tag.Reads as require-tag-reads
+use Rattle.prelude.proofs.prelude.require_word.Reads as require-word-reads
 
--- src/prelude.rt:81:25
+-- src/prelude.rt:71:25
 enum-known-item : tie.Need-enum-known-item
 enum-known-item c = search needs
 
--- src/prelude.rt:81:42
-require-tag-requires : tie.Need-require-tag-requires
-require-tag-requires c κs = search needs
+-- src/prelude.rt:71:42
+require-word-requires : tie.Need-require-word-requires
+require-word-requires c κs = search needs
 
--- src/prelude.rt:82:26
+-- src/prelude.rt:77:26
 enum-known-item-2 : tie.Need-enum-known-item-2
 enum-known-item-2 c = search needs
 
--- src/prelude.rt:82:43
-require-size-requires : tie.Need-require-size-requires
-require-size-requires c κs = search needs
+-- src/prelude.rt:77:43
+require-word-requires-2 : tie.Need-require-word-requires-2
+require-word-requires-2 c κs = search needs
 
 -- src/prelude.rt:83:26
 enum-known-item-3 : tie.Need-enum-known-item-3
@@ -32,15 +30,15 @@ enum-known-item-3 c = search needs
 require-body-requires : tie.Need-require-body-requires
 require-body-requires c κs = search needs
 
--- src/prelude.rt:77:1
+-- src/prelude.rt:67:1
 returns : tie.Need-returns
-returns c = rw (c .before .before .item .given .1) (c .require-tag .ensures)
+returns c = rw (c .before .before .item .given .1) (c .require-word .ensures)
 
--- src/prelude.rt:77:1
+-- src/prelude.rt:67:1
 returns-2 : tie.Need-returns-2
-returns-2 c = rw (c .before .before .item2 .given .1) (c .require-size .ensures)
+returns-2 c = rw (c .before .before .item2 .given .1) (c .require-word2 .ensures)
 
--- src/prelude.rt:77:1
+-- src/prelude.rt:67:1
 returns-3 : tie.Need-returns-3
 returns-3 c = rw (c .before .before .item3 .given .1) (c .require-body .ensures)
 
@@ -49,9 +47,9 @@ require-item-spec =
     tie.close
     (tie.spec
     enum-known-item
-    require-tag-requires
+    require-word-requires
     enum-known-item-2
-    require-size-requires
+    require-word-requires-2
     enum-known-item-3
     require-body-requires
     returns

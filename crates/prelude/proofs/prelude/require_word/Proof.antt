@@ -3,10 +3,10 @@ use native.Mathlib.Omega.{arith}
 use borrow.Author.Tests.{leb-true, eq-eqb, ne-eqb}
 use Rattle.prelude.specs.Layout.{askWord}
 use borrow.Author.Needs.{needs}
-use Rattle.prelude.proofs.prelude.require_tag.Statement.{statement}
-use Rattle.prelude.proofs.prelude.require_tag.Tie as tie
-use Rattle.prelude.proofs.prelude.require_tag.Reads as reads
-use Rattle.prelude.proofs.prelude.require_tag.Lts as lts
+use Rattle.prelude.proofs.prelude.require_word.Statement.{statement}
+use Rattle.prelude.proofs.prelude.require_word.Tie as tie
+use Rattle.prelude.proofs.prelude.require_word.Reads as reads
+use Rattle.prelude.proofs.prelude.require_word.Lts as lts
 use Rattle.fields.proofs.read_u32_le.Reads as read-u32-le-reads
 use Rattle.prelude.proofs.prelude.reaches.Reads as reaches-reads
 
@@ -33,6 +33,6 @@ returns-3 : tie.Need-returns-3
 unfolding askWord
 returns-3 c = rw (sym (c .before .reaches .ensures) ∙ c .if1 .left)
 
-pub require-tag-spec : {M : Type 1} → statement M
-require-tag-spec =
+pub require-word-spec : {M : Type 1} → statement M
+require-word-spec =
     tie.close (tie.spec reaches-requires read-u32-le-requires returns returns-2 returns-3)
