@@ -1,7 +1,7 @@
 -- A chunk's tag, kind and header. Assumes nothing.
 use Prim.Native.Nat.{ℕ}
 use mathlib.Core.Bool.{cond}
-use mathlib.Core.List.{List}
+use mathlib.Core.List.{List, [], _∷_}
 use lib.Dec.{leb, eqb}
 use lib.ListN.{length}
 use Rattle.error.specs.Answer.{Answer, accepted, refused, ask}
@@ -19,6 +19,14 @@ videoTag = 0x63643030
 
 abbrev pub audioTag : ℕ
 audioTag = 0x62773130
+
+-- a stream's tag, of stream 0 or 1
+abbrev pub streamTag : ℕ → ℕ
+streamTag stream = cond (eqb stream 0) videoTag audioTag
+
+-- the trailer, `AMV_END_`
+abbrev pub trailerBytes : List ℕ
+trailerBytes = 0x41 ∷ 0x4d ∷ 0x56 ∷ 0x5f ∷ 0x45 ∷ 0x4e ∷ 0x44 ∷ 0x5f ∷ []
 
 abbrev pub kindOf : ℕ → ChunkKind
 kindOf tag = cond (eqb tag videoTag) Video (cond (eqb tag audioTag) Audio (Other tag))

@@ -4,7 +4,7 @@ pub mod interleave;
 use error::AmvError;
 ghost use mathlib.Core.Path.{_≡_};
 ghost use Prim.Native.Nat.{_+_};
-ghost use Rattle.chunk.specs.Chunk.{kindOf, tagOf, saidChunkHeader, chunkHeaderOf};
+ghost use Rattle.chunk.specs.Chunk.{kindOf, tagOf, streamTag, saidChunkHeader, chunkHeaderOf};
 
 // Tags are numbers, little-endian, so that one comparison tells them apart.
 pub const VIDEO_CHUNK_TAG: u32 = 0x63643030; // 00dc
@@ -39,6 +39,16 @@ impl ChunkKind {
             ChunkKind::Other(tag) => tag,
         }
     }
+}
+
+// The tag of a stream, 0 or 1.
+pub fn stream_tag(stream: u32) -> u32
+    ensures { λ r. ⌜ r ≡ streamTag stream ⌝ }
+{
+    if stream == 0 {
+        return VIDEO_CHUNK_TAG;
+    }
+    AUDIO_CHUNK_TAG
 }
 
 pub struct ChunkHeader {

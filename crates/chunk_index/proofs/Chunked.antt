@@ -5,13 +5,14 @@ use mathlib.Core.List.{List, [], _∷_, _++_, append-assoc}
 use Prim.Native.Nat.{ℕ, _+_, _-_, _^_, _≤_, _<_}
 use native.Mathlib.Omega.{arith}
 use lib.ListN.{length, length-append}
+use Rattle.chunk.specs.Chunk.{trailerBytes}
 use Rattle.fields.specs.Le.{leBytes}
 use Rattle.demuxer.specs.Head.{isTrailer, chunkHead, trailerTag, trailerSize, headAt}
 use Rattle.demuxer.specs.Read.{payloadAt}
 use Rattle.demuxer.specs.declared.head.Head.{Head}
 use Rattle.demuxer.specs.declared.head.Head.the-variants as head
 use Rattle.demuxer.proofs.Suffixes.{chunk-suffix, trailer-suffix, payload-suffix}
-use Rattle.chunk_index.specs.Chunks.{Chunk, chunkOf, chunkBytes, chunksBytes, trailerBytes, Lengths, walkOf}
+use Rattle.chunk_index.specs.Chunks.{Chunk, chunkOf, chunkBytes, chunksBytes, Lengths, walkOf}
 use Rattle.chunk_index.specs.Entry.{kindTag}
 use Rattle.chunk_index.specs.Walk.{Kind, frame, sound, Walk, stop, chunk, trailer, chunkAt, onHead, walk}
 use Rattle.chunk_index.proofs.Walks.{walk-step}
@@ -54,7 +55,7 @@ chunk-walked xs ys payload kind h =
     ∙ ap (λ (k : ℕ). chunk kind payload k (walk file (length xs + (8 + n)))) m
 
 trailer-walked : (xs ys : List ℕ) → walk (xs ++ (trailerBytes ++ ys)) (length xs) ≡ stop (trailer (length ys))
-unfolding trailerBytes
+unfolding leBytes
 trailer-walked xs ys =
     let file : List ℕ = xs ++ ((leBytes 4 trailerTag ++ leBytes 4 trailerSize) ++ ys) in
     let e : headAt file (length xs) ≡ head.Trailer = rw append-assoc (trailer-suffix xs ys trailerTag trailerSize (omega arith) (omega arith) refl) in

@@ -3,7 +3,6 @@ use Prim.Native.Nat.{ℕ, _≤_}
 use mathlib.Core.List.{List, [], _∷_, _++_}
 use lib.ListN.{length}
 use Rattle.fields.specs.Le.{leBytes}
-use Rattle.demuxer.specs.Head.{trailerTag, trailerSize}
 use Rattle.chunk_index.specs.Entry.{kindTag}
 use Rattle.chunk_index.specs.Walk.{Kind, Walk, stop, chunk, trailer}
 
@@ -18,10 +17,6 @@ chunkBytes (chunkOf kind payload) = leBytes 4 (kindTag kind) ++ (leBytes 4 (leng
 unfoldable pub chunksBytes : List Chunk → List ℕ
 chunksBytes [] = []
 chunksBytes (c ∷ cs) = chunkBytes c ++ chunksBytes cs
-
--- `AMV_END_`
-unfoldable pub trailerBytes : List ℕ
-trailerBytes = leBytes 4 trailerTag ++ leBytes 4 trailerSize
 
 -- a length is a u32
 abbrev pub Lengths : List Chunk → Type 0

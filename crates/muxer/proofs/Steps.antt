@@ -9,6 +9,7 @@ use borrow.Author.Tests.{le-leb, leb-true, not-true}
 use lib.Dec.{leb}
 use lib.ListN.{length, getD, set, length-append}
 use lib.Seq.{paste, paste-suc, take-length}
+use Rattle.chunk.specs.Chunk.{streamTag}
 use Rattle.error.specs.Answer.{Answer, accepted, refused, ask, andThen}
 use Rattle.error.specs.Refusal.{refusalOf, said}
 use Rattle.error.specs.declared.AmvError.{AmvError}
@@ -17,7 +18,7 @@ use Rattle.error.specs.declared.AmvResult.the-variants.{Ok, Err}
 use Rattle.error.proofs.Answers.{then-ok, then-err, ask-passed}
 use Rattle.fields.specs.Le.{leBytes, put}
 use Rattle.fields.proofs.Laws.{put-put, length-leBytes}
-use Rattle.muxer.specs.Writer.{outcome, Meets, acceptedWith, refusedWith, fits, hasPrelude, streamTag, packetBytes, askOpen, packetQuestions, trailerQuestions, headerQuestions}
+use Rattle.muxer.specs.Writer.{outcome, Meets, acceptedWith, refusedWith, fits, hasPrelude, packetBytes, askOpen, packetQuestions, trailerQuestions, headerQuestions}
 use Rattle.muxer.specs.declared.Writer.{Writer}
 use Rattle.muxer.specs.declared.Wrote.{Wrote}
 

@@ -7,6 +7,7 @@ use native.Mathlib.Omega.{arith}
 use lib.Dec.{ltb}
 use lib.ListN.{length, take, drop, length-append, length-take}
 use lib.Seq.{take-at, drop-at, take-add, take-take, take-append-add, length-take-le}
+use Rattle.chunk.specs.Chunk.{streamTag, trailerBytes}
 use Rattle.duration.specs.Duration.{packedOf, runLength}
 use Rattle.error.specs.Answer.{Answer, accepted, refused}
 use Rattle.error.specs.declared.Refusal.{Refusal}
@@ -14,7 +15,7 @@ use Rattle.fields.specs.Le.{leBytes, put}
 use Rattle.fields.proofs.Laws.{length-put, length-leBytes}
 use Rattle.prelude.specs.Built.{preludeBytes}
 use Rattle.prelude.proofs.BuiltLaws.{length-prelude}
-use Rattle.muxer.specs.Writer.{outcome, streamTag, packetBytes, trailerBytes, patchRunLength, headerQuestions, packetQuestions, trailerQuestions, afterHeader, afterPacket, afterTrailer, headerCall, packetCall, trailerCall}
+use Rattle.muxer.specs.Writer.{outcome, packetBytes, patchRunLength, headerQuestions, packetQuestions, trailerQuestions, afterHeader, afterPacket, afterTrailer, headerCall, packetCall, trailerCall}
 use Rattle.muxer.specs.declared.Settings.{Settings}
 use Rattle.muxer.specs.declared.Writer.{Writer}
 use Rattle.muxer.proofs.Steps.{Open, PacketPassed, TrailerPassed, header-passed, packet-passed, trailer-passed}

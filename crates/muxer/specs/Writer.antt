@@ -5,7 +5,7 @@ use mathlib.Core.Bool.{Bool, true, false, not, cond, _&&_, _||_}
 use mathlib.Core.List.{List, [], _∷_, _++_}
 use lib.Dec.{leb, ltb, eqb}
 use lib.ListN.{length}
-use Rattle.chunk.specs.Chunk.{videoTag, audioTag}
+use Rattle.chunk.specs.Chunk.{streamTag, trailerBytes}
 use Rattle.duration.specs.Duration.{packedOf, runLength}
 use Rattle.error.specs.Answer.{Answer, accepted, refused, ask}
 use Rattle.error.specs.Refusal.{said}
@@ -63,9 +63,6 @@ headerCall w buf =
     (put buf 0 (preludeBytes (s .width) (s .height) (s .fps) 0 (s .rate) (s .channels)))
 
 -- "A packet is tag `00dc` (stream 0) or `01wb` (stream 1), u32 length, payload, no padding"
-abbrev pub streamTag : ℕ → ℕ
-streamTag stream = cond (eqb stream 0) videoTag audioTag
-
 unfoldable pub packetBytes : ℕ → List ℕ → List ℕ
 packetBytes stream payload = leBytes 4 (streamTag stream) ++ (leBytes 4 (length payload) ++ payload)
 
@@ -106,10 +103,6 @@ packetCall w payload stream buf =
     outcome (packetQuestions w (length payload) stream (length buf)) w buf
     (afterPacket w (length payload) stream)
     (put buf (w .written) (packetBytes stream payload))
-
--- `AMV_END_`
-abbrev pub trailerBytes : List ℕ
-trailerBytes = 0x41 ∷ 0x4d ∷ 0x56 ∷ 0x5f ∷ 0x45 ∷ 0x4e ∷ 0x44 ∷ 0x5f ∷ []
 
 unfoldable pub trailerQuestions : Writer → ℕ → Answer Unit
 trailerQuestions w room =

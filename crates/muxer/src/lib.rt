@@ -9,11 +9,12 @@ use prelude::build::build_prelude_bytes;
 ghost use mathlib.Core.Path.{_≡_};
 ghost use Prim.Native.Nat.{_+_, _≤_};
 ghost use lib.ListN.{length};
+ghost use Rattle.chunk.specs.Chunk.{streamTag, trailerBytes};
 ghost use Rattle.error.specs.Answer.{accepted};
 ghost use Rattle.error.specs.Refusal.{said};
 ghost use Rattle.fields.specs.Le.{put};
 ghost use Rattle.prelude.specs.Built.{preludeBytes};
-ghost use Rattle.muxer.specs.Writer.{fresh, fits, streamTag, framesAfter, packetBytes, trailerBytes, patchRunLength, askOpen, headerQuestions, packetQuestions, trailerQuestions, afterHeader, afterPacket, afterTrailer, headerCall, packetCall, trailerCall, Meets, acceptedWith, refusedWith};
+ghost use Rattle.muxer.specs.Writer.{fresh, fits, framesAfter, packetBytes, patchRunLength, askOpen, headerQuestions, packetQuestions, trailerQuestions, afterHeader, afterPacket, afterTrailer, headerCall, packetCall, trailerCall, Meets, acceptedWith, refusedWith};
 
 pub struct Settings {
     pub width: u32,
@@ -49,16 +50,6 @@ fn has_room(room: usize, off: u64, len: u64) -> bool
         return false;
     }
     true
-}
-
-fn stream_tag(stream: u32) -> u32
-    ensures { λ r. ⌜ r ≡ streamTag stream ⌝ }
-{
-    if stream == 0 {
-        VIDEO_CHUNK_TAG
-    } else {
-        AUDIO_CHUNK_TAG
-    }
 }
 
 // A packet's length in the file: a tag, a size, the payload and no padding.
@@ -103,7 +94,7 @@ fn put_packet(buf: &mut [u8], off: usize, payload: &[u8], stream: u32)
     requires { ⌜ length (now payload) ≤ 4294967295 ⌝ }
     ensures { λ _. ⌜ now (buf .exit) ≡ put (now (buf .entry)) off (packetBytes stream (now (payload .entry))) ⌝ }
 {
-    fields::write_u32_le(buf, off, stream_tag(stream));
+    fields::write_u32_le(buf, off, chunk::stream_tag(stream));
     fields::write_u32_le(buf, off + 4, payload_size(payload));
     copy_in(buf, off + 8, payload);
 }

@@ -9,7 +9,7 @@ use borrow.Author.Tests.{le-leb, leb-true, eqb-true}
 use lib.Dec.{leb, eqb}
 use lib.ListN.{length, take, drop, length-append, length-take, length-drop, take-append-drop, drop-of-length-le}
 use lib.Seq.{take-at, drop-at, drop-drop, take-all, take-add}
-use Rattle.chunk.specs.Chunk.{videoTag, audioTag, kindOf}
+use Rattle.chunk.specs.Chunk.{videoTag, audioTag, kindOf, trailerBytes}
 use Rattle.chunk.specs.Interleave.{interleave}
 use Rattle.chunk.specs.declared.ChunkKind.{ChunkKind}
 use Rattle.chunk.specs.declared.ChunkKind.the-variants.{Video, Audio, Other}
@@ -30,7 +30,7 @@ use Rattle.demuxer.specs.declared.head.Head.{Head}
 use Rattle.demuxer.specs.declared.head.Head.the-variants as head
 use Rattle.demuxer.specs.declared.position.Position.{Position}
 use Rattle.chunk_index.specs.Walk.{Kind, frame, sound, Walk, stop, chunk, ranOut, trailer, unknownTag, onHead, walkFor, walk, past}
-use Rattle.chunk_index.specs.Chunks.{Chunk, chunkOf, chunkBytes, chunksBytes, trailerBytes, Lengths, walkOf}
+use Rattle.chunk_index.specs.Chunks.{Chunk, chunkOf, chunkBytes, chunksBytes, Lengths, walkOf}
 use Rattle.chunk_index.specs.Entry.{kindTag}
 use Rattle.chunk_index.proofs.Chunked.{chunks-walked}
 use Rattle.recording.specs.Check.{passes, tagsOf, checkStop, checkFrom, checkOf, chunkTags, totalsOf, CheckIsGrammar}
@@ -188,7 +188,7 @@ chunk-more file at size kind b h m c =
     }
 
 trailer-last : (file : List ℕ) (at : ℕ) → Bytes file → Headed file at trailerTag trailerSize → length file - (at + 8) ≡ 0 → Chunked file at
-unfolding chunksBytes trailerBytes
+unfolding chunksBytes leBytes
 trailer-last file at b h z =
     let e : drop (at + 8) file ≡ [] = drop-none (at + 8) file (omega arith) in
     record {

@@ -7,3 +7,4 @@ pub mod Readings
 pub mod Lists
 pub mod CheckParts
 pub mod Writes
+pub mod Together

@@ -11,6 +11,7 @@ use borrow.Author.Tests.{eq-eqb, leb-true}
 use lib.Dec.{leb}
 use lib.IntN.{ℤ}
 use lib.ListN.{length, take, drop, getElem?, length-append, drop-of-length-le}
+use Rattle.chunk.specs.Chunk.{trailerBytes}
 use Rattle.error.specs.Answer.{Answer, accepted, refused, numbered}
 use Rattle.fields.specs.Le.{leBytes, Bytes}
 use Rattle.demuxer.specs.Packet.{Shown}
@@ -19,7 +20,7 @@ use Rattle.demuxer.specs.Read.{ReadAnswer, packet, End, fresh, atTrailer, advan
 use Rattle.demuxer.specs.declared.position.Position.{Position}
 use Rattle.demuxer.specs.declared.walker.Walker.{Walker}
 use Rattle.demuxer.proofs.Ranges.{in-range}
-use Rattle.chunk_index.specs.Chunks.{Chunk, chunkOf, chunkBytes, chunksBytes, trailerBytes}
+use Rattle.chunk_index.specs.Chunks.{Chunk, chunkOf, chunkBytes, chunksBytes}
 use Rattle.chunk_index.specs.Entry.{tableBytes, entriesOf}
 use Rattle.chunk_index.specs.declared.entry.ChunkIndexEntry.{ChunkIndexEntry}
 use Rattle.seek.specs.Seek.{seekQuestions, goodEntries, find, pastLast, landed, soughtFrom, seekOf}
@@ -91,7 +92,7 @@ module _ (file : List ℕ) (cs : List Chunk) (all : Bytes file) (fin : Finished 
   size : length file ≡ 316 + (length (chunksBytes cs) + 8)
   size =
       ap length (fin .is) ∙ length-append (fin .prelude) (chunksBytes cs ++ trailerBytes)
-      ∙ ap₂ (λ (a b : ℕ). a + b) (fin .whole) (length-append (chunksBytes cs) trailerBytes ∙ (unfold trailerBytes leBytes in refl))
+      ∙ ap₂ (λ (a b : ℕ). a + b) (fin .whole) (length-append (chunksBytes cs) trailerBytes ∙ (unfold leBytes in refl))
 
   chunk-bytes : Bytes (chunksBytes cs)
   chunk-bytes = bytes-left (chunksBytes cs) trailerBytes (bytes-right (fin .prelude) _ (subst Bytes (fin .is) all))

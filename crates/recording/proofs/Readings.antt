@@ -7,6 +7,7 @@ use native.Mathlib.Omega.{arith}
 use borrow.Author.Tests.{le-leb}
 use lib.Dec.{leb}
 use lib.ListN.{length, length-append}
+use Rattle.chunk.specs.Chunk.{trailerBytes}
 use Rattle.fields.specs.File.{fileLimit}
 use Rattle.fields.specs.Le.{leBytes}
 use Rattle.demuxer.specs.Head.{headAt, chunkHead, trailerTag, trailerSize}
@@ -17,7 +18,7 @@ use Rattle.demuxer.specs.declared.walker.Walker.{Walker}
 use Rattle.demuxer.proofs.Steps.{read-on}
 use Rattle.demuxer.proofs.Suffixes.{chunk-suffix, trailer-suffix, payload-suffix}
 use Rattle.chunk_index.specs.Walk.{Kind, frame, sound}
-use Rattle.chunk_index.specs.Chunks.{chunkOf, chunkBytes, trailerBytes}
+use Rattle.chunk_index.specs.Chunks.{chunkOf, chunkBytes}
 use Rattle.chunk_index.specs.Entry.{kindTag}
 use Rattle.chunk_index.proofs.Chunked.{tag-held, tag-no-trailer}
 use Rattle.recording.proofs.Positions.{passed, shownAt}
@@ -49,7 +50,7 @@ module _ (file : List ℕ) (w : Walker) (xs : List ℕ) (fits : length file ≤ 
       ∙ head-read file w kind payload (le-leb (w .position .cursor + 8 + n) (length file) (omega arith)) b
 
   pub read-trailer : w .end ≡ false → w .position .cursor ≡ length xs → file ≡ xs ++ trailerBytes → readOf file w ≡ record { answer = End; walker = atTrailer w }
-  unfolding trailerBytes readChunk leBytes
+  unfolding readChunk leBytes
   read-trailer going at is =
       let h : headAt file (w .position .cursor) ≡ head.Trailer =
       (λ i. headAt (is i) (at i)) ∙ trailer-suffix xs [] trailerTag trailerSize (omega arith) (omega arith) refl in

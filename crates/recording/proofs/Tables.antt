@@ -9,13 +9,14 @@ use borrow.Author.Tests.{le-leb}
 use lib.Dec.{leb}
 use lib.Seq.{take-at}
 use lib.ListN.{length, take, length-append}
+use Rattle.chunk.specs.Chunk.{trailerBytes}
 use Rattle.error.specs.Answer.{Answer, accepted, refused, ask, andThen}
 use Rattle.fields.specs.File.{fileLimit}
 use Rattle.fields.specs.Le.{Bytes, put}
 use Rattle.demuxer.specs.Position.{start}
 use Rattle.demuxer.specs.declared.position.Position.{Position}
 use Rattle.chunk_index.specs.Walk.{Kind, frame, sound, walk, past}
-use Rattle.chunk_index.specs.Chunks.{Chunk, chunkOf, chunkBytes, chunksBytes, trailerBytes, walkOf}
+use Rattle.chunk_index.specs.Chunks.{Chunk, chunkOf, chunkBytes, chunksBytes, walkOf}
 use Rattle.chunk_index.specs.Entry.{entry, entryBytes, Small, tableBytes, entriesFrom, entriesOf}
 use Rattle.chunk_index.specs.Index.{Built, builtFrom, buildOf, recorded, records, tagsKnown, fileWalk, indexOf}
 use Rattle.chunk_index.specs.declared.entry.ChunkIndexEntry.{ChunkIndexEntry}

@@ -9,6 +9,7 @@ use borrow.Author.Tests.{ne-eqb}
 use lib.Dec.{eqb, ltb}
 use lib.ListN.{length, length-take}
 use lib.Seq.{take-append-le, drop-append-le}
+use Rattle.chunk.specs.Chunk.{trailerBytes}
 use Rattle.error.specs.Answer.{Answer, accepted, refused}
 use Rattle.error.specs.declared.Refusal.{Refusal}
 use Rattle.fields.specs.File.{fileLimit}
@@ -21,7 +22,7 @@ use Rattle.prelude.specs.Prelude.{strictOf}
 use Rattle.prelude.proofs.BuiltLaws.{length-prelude, patched, strict-built}
 use Rattle.chunk_index.specs.Walk.{Kind, frame, sound, Walk, walk}
 use Rattle.chunk_index.specs.Walk as walks
-use Rattle.chunk_index.specs.Chunks.{Chunk, chunkOf, chunkBytes, chunksBytes, trailerBytes, Lengths, walkOf}
+use Rattle.chunk_index.specs.Chunks.{Chunk, chunkOf, chunkBytes, chunksBytes, Lengths, walkOf}
 use Rattle.muxer.specs.Writer.{fresh, Outcome, packetBytes, patchRunLength, headerQuestions, headerCall, packetCall, trailerCall}
 use Rattle.muxer.specs.Writer as muxer
 use Rattle.muxer.specs.declared.Settings.{Settings}
@@ -251,18 +252,16 @@ module _ (s : Settings) (ok : Proper s) where
           (λ q. let z : _≡_ {A = ℕ} 0 1 = cc in absurd (omega arith))
 
   -- a file of the prelude, the chunks and the trailer, patched
-  closed : (w : Writer) (buf file : List ℕ) (cs : List Chunk) → Going w buf cs → file ≡ patchRunLength w (fileOf w buf ++ muxer.trailerBytes)
+  closed : (w : Writer) (buf file : List ℕ) (cs : List Chunk) → Going w buf cs → file ≡ patchRunLength w (fileOf w buf ++ trailerBytes)
       → length file ≤ fileLimit → Finished file cs
   closed w buf file cs k e l =
-      let t : muxer.trailerBytes ≡ trailerBytes = unfold trailerBytes leBytes in refl in
       let p = patch-front w (chunksBytes cs ++ trailerBytes) in
       record {
         prelude = preludeWith (p .0);
         passes = passes-with (p .0) (p .1);
         whole = length-prelude (s .width) (s .height) (s .fps) (p .0) (s .rate) (s .channels);
         is = e
-            ∙ ap (λ (xs : List ℕ). patchRunLength w (xs ++ muxer.trailerBytes)) (k .file)
-            ∙ ap (λ (xs : List ℕ). patchRunLength w ((preludeWith 0 ++ chunksBytes cs) ++ xs)) t
+            ∙ ap (λ (xs : List ℕ). patchRunLength w (xs ++ trailerBytes)) (k .file)
             ∙ ap (λ (xs : List ℕ). patchRunLength w xs) (append-assoc (preludeWith 0) (chunksBytes cs) trailerBytes)
             ∙ p .2;
         fits = l;

@@ -3,11 +3,12 @@ use mathlib.Core.Path.{_≡_}
 use mathlib.Core.List.{List, _++_}
 use Prim.Native.Nat.{ℕ, _≤_}
 use lib.ListN.{length}
+use Rattle.chunk.specs.Chunk.{trailerBytes}
 use Rattle.error.specs.Answer.{accepted}
 use Rattle.fields.specs.File.{fileLimit}
 use Rattle.prelude.specs.Prelude.{preludeLen, strictOf}
 use Rattle.prelude.specs.declared.prelude.AmvPrelude.{AmvPrelude}
-use Rattle.chunk_index.specs.Chunks.{Chunk, chunksBytes, trailerBytes, Lengths}
+use Rattle.chunk_index.specs.Chunks.{Chunk, chunksBytes, Lengths}
 
 -- "a prelude passing 11 to 24"
 abbrev pub Passes : List ℕ → Type 0

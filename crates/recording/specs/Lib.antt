@@ -4,3 +4,4 @@ pub mod Machine
 pub mod Check
 pub mod CheckSteps
 pub mod Written
+pub mod Together

@@ -6,6 +6,7 @@ use mathlib.Core.Option.{some}
 use Prim.Native.Nat.{ℕ}
 use lib.IntN.{ℤ, pos, negsuc}
 use lib.ListN.{length, take}
+use Rattle.chunk.specs.Chunk.{trailerBytes}
 use Rattle.error.specs.Answer.{accepted}
 use Rattle.prelude.specs.Built.{preludeBytes}
 use Rattle.demuxer.specs.Read.{ReadAnswer, packet, End, fresh, readOf}
@@ -13,7 +14,7 @@ use Rattle.demuxer.specs.declared.position.Position.{Position}
 use Rattle.demuxer.specs.declared.walker.Trailer.the-variants.{NotMet}
 use Rattle.demuxer.specs.declared.walker.Walker.{Walker}
 use Rattle.chunk_index.specs.Walk.{frame, sound}
-use Rattle.chunk_index.specs.Chunks.{chunkOf, chunksBytes, trailerBytes}
+use Rattle.chunk_index.specs.Chunks.{chunkOf, chunksBytes}
 use Rattle.chunk_index.specs.Entry.{tableBytes}
 use Rattle.chunk_index.specs.Index.{fileWalk, records, indexOf}
 use Rattle.chunk_index.specs.declared.entry.ChunkIndexEntry.{ChunkIndexEntry}

@@ -7,7 +7,7 @@ use lib.Dec.{leb, ltb, eqb}
 use lib.IntN.{ℤ, pos, negsuc}
 use lib.ListN.{length}
 use lib.Signed.{leZ}
-use Rattle.chunk.specs.Chunk.{videoTag, audioTag}
+use Rattle.chunk.specs.Chunk.{videoTag, audioTag, streamTag}
 use Rattle.chunk_index.specs.Entry.{entryLen, entriesOf}
 use Rattle.chunk_index.specs.declared.entry.ChunkIndexEntry.{ChunkIndexEntry}
 use Rattle.demuxer.specs.Position.{countLimit, inRange}
@@ -20,10 +20,6 @@ use Rattle.seek.specs.declared.SeekResult.the-variants.{Ok, Err}
 use Rattle.seek.specs.declared.Sought.{Sought}
 use Rattle.seek.specs.declared.Found.{Found}
 use Rattle.seek.specs.declared.Found.the-variants.{At, Nowhere}
-
--- a stream's tag, of stream 0 or 1
-abbrev pub streamTag : ℕ → ℕ
-streamTag stream = cond (eqb stream 0) videoTag audioTag
 
 -- a stream's stamp at a position: frames for stream 0, samples for stream 1
 abbrev pub stampOf : ℕ → Position → ℕ

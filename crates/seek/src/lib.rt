@@ -11,9 +11,10 @@ ghost use mathlib.Core.Bool.{cond};
 ghost use Prim.Native.Nat.{_+_, _<_};
 ghost use lib.Dec.{eqb};
 ghost use lib.IntN.{pos};
+ghost use Rattle.chunk.specs.Chunk.{streamTag};
 ghost use Rattle.error.specs.Refusal.{said};
 ghost use Rattle.chunk_index.specs.Entry.{Small, entriesOf};
-ghost use Rattle.seek.specs.Seek.{goodEntry, goodEntries, seekQuestions, streamTag, stampOf, least, reaches, find, foundOf, beyond, pastLast, movedTo, landed, saidSought, seekOf};
+ghost use Rattle.seek.specs.Seek.{goodEntry, goodEntries, seekQuestions, stampOf, least, reaches, find, foundOf, beyond, pastLast, movedTo, landed, saidSought, seekOf};
 
 pub enum SeekResult {
     Ok(u64),
@@ -92,15 +93,6 @@ fn least_stamp(request: i64) -> u64
     request as u64
 }
 
-fn stream_tag(stream: u32) -> u32
-    ensures { λ r. ⌜ r ≡ streamTag stream ⌝ }
-{
-    if stream == 0 {
-        return chunk::VIDEO_CHUNK_TAG;
-    }
-    chunk::AUDIO_CHUNK_TAG
-}
-
 fn stamp_of(stream: u32, position: Position) -> u64
     ensures { λ r. ⌜ r ≡ stampOf stream position ⌝ }
 {
@@ -113,7 +105,7 @@ fn stamp_of(stream: u32, position: Position) -> u64
 fn reaches_entry(stream: u32, request: u64, e: ChunkIndexEntry) -> bool
     ensures { λ r. ⌜ r ≡ reaches stream (pos request) e ⌝ }
 {
-    let tag = stream_tag(stream);
+    let tag = chunk::stream_tag(stream);
     if e.tag != tag {
         return false;
     }

@@ -6,7 +6,7 @@ use Rattle.seek.proofs.reaches_entry.Tie as tie
 use Rattle.seek.proofs.reaches_entry.Reads as reads
 use Rattle.seek.proofs.reaches_entry.Lts as lts
 use Rattle.seek.proofs.stamp_of.Reads as stamp-of-reads
-use Rattle.seek.proofs.stream_tag.Reads as stream-tag-reads
+use Rattle.chunk.proofs.stream_tag.Reads as stream-tag-reads
 
 stream-tag-requires : tie.Need-stream-tag-requires
 stream-tag-requires c κs = search needs

@@ -1,14 +1,12 @@
 use borrow.Author.Tests.{eq-eqb, ne-eqb}
-use Rattle.muxer.proofs.stream_tag.Statement.{statement}
-use Rattle.muxer.proofs.stream_tag.Tie as tie
-use Rattle.muxer.proofs.stream_tag.Reads as reads
-use Rattle.muxer.proofs.stream_tag.Lts as lts
+use Rattle.chunk.proofs.stream_tag.Statement.{statement}
+use Rattle.chunk.proofs.stream_tag.Tie as tie
+use Rattle.chunk.proofs.stream_tag.Reads as reads
+use Rattle.chunk.proofs.stream_tag.Lts as lts
 
--- src/lib.rt:55:1
 returns : tie.Need-returns
 returns c = rw (eq-eqb _ _ (c .if1 .taken))
 
--- src/lib.rt:55:1
 returns-2 : tie.Need-returns-2
 returns-2 c = rw (ne-eqb _ _ (c .if1 .left))
 
