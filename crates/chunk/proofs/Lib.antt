@@ -1,3 +1,3 @@
 pub mod Chunks
 pub mod Interleaves
-pub mod Cases
+pub mod Tags

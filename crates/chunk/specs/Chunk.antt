@@ -13,7 +13,7 @@ use Rattle.chunk.specs.declared.ChunkHeader.{ChunkHeader}
 use Rattle.chunk.specs.declared.ChunkHeaderResult.{ChunkHeaderResult}
 use Rattle.chunk.specs.declared.ChunkHeaderResult.the-variants.{Ok, Err}
 
--- 01: "tag `00dc` (stream 0) or `01wb` (stream 1)", as little-endian numbers; `Cases` spells them out
+-- 01: "tag `00dc` (stream 0) or `01wb` (stream 1)", as little-endian numbers; `Tags` spells them out
 abbrev pub videoTag : ℕ
 videoTag = 0x63643030
 

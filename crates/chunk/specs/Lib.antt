@@ -1,3 +1,3 @@
 pub mod Chunk
 pub mod Interleave
-pub mod Cases
+pub mod Tags

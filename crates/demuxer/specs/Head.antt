@@ -13,7 +13,7 @@ use Rattle.demuxer.specs.declared.head.Head.the-variants as head
 use Rattle.demuxer.specs.declared.head.Body.{Body}
 use Rattle.demuxer.specs.declared.head.Body.the-variants as body
 
--- `AMV_END_` in two halves; `Cases` spells them out
+-- `AMV_END_` in two halves: the trailer's bytes as two numbers
 abbrev pub trailerTag : ℕ
 trailerTag = 0x5f564d41
 

@@ -1,2 +1,1 @@
 pub mod Duration
-pub mod Cases

@@ -1,4 +1,3 @@
 pub mod Header
 pub mod WaveFormat
 pub mod Preamble
-pub mod Cases

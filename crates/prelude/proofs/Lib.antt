@@ -4,4 +4,4 @@ pub mod Bodies
 pub mod Stored
 pub mod Local
 pub mod BuiltLaws
-pub mod Cases
+pub mod Tags

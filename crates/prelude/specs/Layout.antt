@@ -10,7 +10,7 @@ use Rattle.fields.specs.Le.{le}
 use Rattle.prelude.specs.declared.layout.LayoutItem.{LayoutItem}
 use Rattle.prelude.specs.declared.layout.LayoutItem.the-variants.{Tag, Size, Body}
 
--- the characters of a tag as a little-endian number; `Cases` spells them out
+-- the characters of a tag as a little-endian number; `Tags` spells them out
 abbrev pub RIFF : ℕ
 RIFF = 0x46464952
 

@@ -2,4 +2,4 @@ pub mod Layout
 pub mod Prelude
 pub mod Built
 pub mod Stores
-pub mod Cases
+pub mod Tags

@@ -1,0 +1,56 @@
+-- Document 01's ten cases hold: antt computes them. Assumes nothing.
+use mathlib.Core.Path.{refl}
+use Rattle.fields.specs.Le.{le, leBytes}
+use Rattle.duration.specs.Duration.{packedOf, runLength, ofSeconds}
+use Rattle.chunk.specs.Interleave.{interleaveFrom}
+use Rattle.parse.specs.Header.{headerFields, headerSentinels}
+use Rattle.parse.specs.WaveFormat.{cbSizeOf, waveFormatFields, waveFormatOf, waveFormatSentinels}
+use Rattle.prelude.specs.Built.{preludeBytes}
+use Rattle.prelude.specs.Layout.{layout, askWord, askBody, askItems}
+use Rattle.prelude.specs.Prelude.{preludeFields, parseOf, zeros, zeroRanges, validatedOf, strictOf}
+use Rattle.demuxer.specs.Head.{headAt, countOf}
+use Rattle.demuxer.specs.Packet.{payloadOf, shownOf}
+use Rattle.demuxer.specs.Position.{inRange}
+use Rattle.demuxer.specs.Read.{readFrame, readSound, readChunk, readOf}
+use Rattle.chunk_index.specs.Walk.{walkFor, walk}
+use Rattle.chunk_index.specs.Chunks.{chunkBytes, chunksBytes}
+use Rattle.chunk_index.specs.Entry.{entryBytes, tableBytes, entryAt, entriesFrom}
+use Rattle.chunk_index.specs.Index.{records, tagsKnown, indexOf}
+use Rattle.seek.specs.Seek.{goodEntries, seekQuestions, find, pastLast, seekOf}
+use Rattle.recording.specs.Check.{tagsOf, checkFrom, checkOf}
+use Rattle.cases.specs.Cases.{Cases}
+use Rattle.cases.specs.Example.{E}
+
+pub cases : Cases
+unfolding le leBytes packedOf runLength ofSeconds interleaveFrom headerFields headerSentinels cbSizeOf waveFormatFields waveFormatOf waveFormatSentinels preludeBytes layout askWord askBody askItems preludeFields parseOf zeros zeroRanges validatedOf strictOf headAt countOf payloadOf shownOf inRange readFrame readSound readChunk readOf walkFor walk chunkBytes chunksBytes entryBytes tableBytes entryAt entriesFrom records tagsKnown indexOf goodEntries seekQuestions find pastLast seekOf tagsOf checkFrom checkOf E
+cases =
+    record {
+      one = refl;
+      two = refl;
+      three-million = refl;
+      three-needs-one = refl;
+      three-more = refl;
+      three-refused = refl;
+      four = refl;
+      four-needs = refl;
+      five-none = refl;
+      five-v = refl;
+      five-va = refl;
+      five-a = refl;
+      five-vv = refl;
+      six-17 = λ body e. rw e;
+      six-18 = λ body e. rw e;
+      six-cb = λ body e. rw e;
+      size = refl;
+      indexed = refl;
+      seven = refl;
+      eight-walker = refl;
+      eight-stamp = refl;
+      nine-packet = refl;
+      nine-end = refl;
+      nine-344 = refl;
+      nine-343 = refl;
+      nine-342 = refl;
+      ten = λ byte. refl;
+      ten-passes = refl;
+    }

@@ -1,0 +1,8 @@
+-- The tags are those. Assumes nothing.
+use mathlib.Core.Path.{refl}
+use Rattle.fields.specs.Le.{leBytes}
+use Rattle.chunk.specs.Tags.{Tags}
+
+pub tags : Tags
+unfolding leBytes
+tags = record { video-tag = refl; audio-tag = refl }
