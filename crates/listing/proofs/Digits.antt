@@ -86,9 +86,10 @@ pub turn : (ds : List ℕ) (i n : ℕ) {xs : List ℕ} → 9 < n → n < 10 ^ (i
     → (n / 10 < 10 ^ (i - 1 + 1)) × (xs ≡ digits (i - 1 + 1) (n / 10) ++ drop (i - 1 + 1) (set ds i (48 + n % 10)))
 turn ds i n h b l e =
     let j : i - 1 + 1 ≡ i = omega (arith, more i n h b) in
-    let f : digits (i + 1) n ≡ digits i (n / 10) ++ ((48 + n % 10) ∷ []) = rw (add-one i) (long i n h) in
-    (rw j (tenth i n (rw (add-one i) at b)),
-      rw (j, drop-set ds i (48 + n % 10) l) ((rw f at e) ∙ append-assoc (digits i (n / 10)) _ _))
+    let f : digits (i + 1) n ≡ digits i (n / 10) ++ ((48 + n % 10) ∷ []) = rw (add-one i) (long i n h) in (
+      rw j (tenth i n (rw (add-one i) at b)),
+      rw (j, drop-set ds i (48 + n % 10) l) ((rw f at e) ∙ append-assoc (digits i (n / 10)) _ _),
+    )
 
 -- the first digit
 pub last : (ds : List ℕ) (i n : ℕ) {xs : List ℕ} → n < 10 → i < length ds → xs ≡ digits (i + 1) n ++ drop (i + 1) ds

@@ -1,12 +1,12 @@
 -- What the functions cite: words put one after another, and decimal digits. Assumes nothing.
 use mathlib.Core.Path.{_≡_, refl, sym, ap, _∙_}
 use mathlib.Core.List.{List, [], _∷_, _++_, append-assoc}
-use Prim.Native.Nat.{ℕ, zero, suc, _+_, _*_, _^_, _/_, _%_, _≤_, _<_}
+use Prim.Native.Nat.{ℕ, _+_, _-_, _≤_, _<_}
 use native.Mathlib.Numerals.{add-one}
 use native.Mathlib.Omega.{arith}
 use borrow.Author.Tests.{le-leb, lt-leb}
-use lib.ListN.{length, getD, set, take, length-append}
-use lib.Seq.{paste, paste-suc, take-length, take-at}
+use lib.ListN.{length, getD, set, take, drop, length-append, length-drop}
+use lib.Seq.{paste, paste-suc, take-all, take-length, take-at}
 use Rattle.fields.specs.Le.{put}
 use Rattle.fields.proofs.Laws.{put-put, length-put}
 use Rattle.listing.specs.Listing.{listed, Meets}
@@ -36,10 +36,20 @@ join {xs} {ys} {zs} {off} {m} {n} {a} {b} p q =
       fits = omega (arith, q .fits);
     }
 
+pub same : {xs ys a b : List ℕ} {off n : ℕ} → Written xs off a ys n → a ≡ b → Written xs off b ys n
+same p e = rw e at p
+
 -- a word at the front is what is read there
 pub front : {xs ys a : List ℕ} {n : ℕ} → Written xs 0 a ys n → take n ys ≡ a
 unfolding put
 front {xs} {ys} {a} {n} p = ap (λ (k : List ℕ). take n k) (p .bytes) ∙ take-at a _ n (omega (arith, p .ends))
+
+pub front-length : {xs ys a : List ℕ} {n : ℕ} → Written xs 0 a ys n → n ≡ length (take n ys)
+front-length p = rw (front p) (omega (arith, p .ends))
+
+-- what a part of an array up to its end holds
+pub tail : (xs : List ℕ) (len from : ℕ) → length xs ≡ len → take (len - from) (drop from xs) ≡ drop from xs
+tail xs len from h = take-all (len - from) (drop from xs) (simp length-drop (omega arith))
 
 -- ---- a line
 
@@ -52,3 +62,8 @@ unfolding listed
 room {text} {buf} {after} {len} p =
     rw (le-leb (length text) (length buf) (omega (arith, p .ends, p .fits)))
     (record { answer = ap Len (omega (arith, p .ends)); buffer = p .bytes })
+
+-- the line that was made is the one that is listed
+pub listed-front : (buf : List ℕ) {xs ys a after : List ℕ} {n : ℕ} {r : Listed} → Written xs 0 a ys n → Meets (listed (take n ys) buf) r after
+    → Meets (listed a buf) r after
+listed-front buf p m = rw (front p) at m

@@ -1,3 +1,5 @@
+use Rattle.listing.specs.Listing.{chunkLine}
+use Rattle.listing.proofs.Laws.{join}
 use borrow.Author.Needs.{needs}
 use Rattle.listing.proofs.chunk_line.Statement.{statement}
 use Rattle.listing.proofs.chunk_line.Tie as tie
@@ -41,7 +43,18 @@ same-length c = search needs
 
 -- src/lib.rt:88:1
 returns : tie.Need-returns
-returns c = ?
+unfolding chunkLine
+returns c = let e = c .before .before in
+    let d = e .before .before .before .before .before in
+    let s = d .before .before .before .before in
+    let f = s .before .before .before .before in
+    let o = f .before .before .before .before in
+    let k = o .before .before .before .before in
+    join (k .put-kind .ensures .0)
+    (join (o .put-number .ensures .0)
+    (join (f .put-number2 .ensures .0)
+    (join (s .put-number3 .ensures .0)
+    (join (d .put-number4 .ensures .0) (e .put-word .ensures)))))
 
 pub chunk-line-spec : {M : Type 1} → statement M
 chunk-line-spec =

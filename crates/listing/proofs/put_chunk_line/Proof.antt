@@ -1,3 +1,4 @@
+use Rattle.listing.proofs.Laws.{front-length, listed-front}
 use borrow.Author.Needs.{needs}
 use Rattle.listing.proofs.put_chunk_line.Statement.{statement}
 use Rattle.listing.proofs.put_chunk_line.Tie as tie
@@ -20,7 +21,7 @@ array-share-prefix-text c = search needs
 
 -- src/lib.rt:157:19
 slice-aggregate-put-line : tie.Need-slice-aggregate-put-line
-slice-aggregate-put-line c = ?
+slice-aggregate-put-line c = front-length (c .before .before .before .chunk-line .ensures)
 
 -- src/lib.rt:157:5
 put-line-requires : tie.Need-put-line-requires
@@ -32,7 +33,7 @@ same-length c = search needs
 
 -- src/lib.rt:145:1
 returns : tie.Need-returns
-returns c = ?
+returns c = let l = c .before .before in listed-front (l .before .before .before .before .before .before .before .args .buf .now) (l .before .before .before .before .chunk-line .ensures) (l .put-line .ensures)
 
 pub put-chunk-line-spec : {M : Type 1} → statement M
 put-chunk-line-spec =

@@ -1,3 +1,5 @@
+use native.Mathlib.Omega.{arith}
+use Rattle.listing.proofs.Laws.{join}
 use borrow.Author.Needs.{needs}
 use Rattle.listing.proofs.put_field.Statement.{statement}
 use Rattle.listing.proofs.put_field.Tie as tie
@@ -20,7 +22,7 @@ same-length c = search needs
 
 -- src/lib.rt:56:1
 returns : tie.Need-returns
-returns c = ?
+returns c = let n = c .before .before in let w = n .before .before .before .before in (join (w .put-word .ensures) (n .put-number .ensures .0), omega arith)
 
 pub put-field-spec : {M : Type 1} → statement M
 put-field-spec = tie.close (tie.spec put-word-requires put-number-requires same-length returns)

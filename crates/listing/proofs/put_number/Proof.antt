@@ -1,3 +1,9 @@
+use mathlib.Core.Path.{ap, _∙_}
+use mathlib.Core.List.{List, _∷_}
+use Prim.Native.Nat.{ℕ, _-_}
+use native.Mathlib.Omega.{arith}
+use lib.ListN.{drop, length-take}
+use Rattle.listing.proofs.Laws.{join, same, tail}
 use borrow.Author.Needs.{needs}
 use Rattle.listing.proofs.put_number.Statement.{statement}
 use Rattle.listing.proofs.put_number.Tie as tie
@@ -44,7 +50,15 @@ same-length c = search needs
 
 -- src/lib.rt:45:1
 returns : tie.Need-returns
-returns c = ?
+returns c = let w = c .before .before in
+    let s = w .before .before .before .before .before .before in
+    let d = s .before .before .before .before in
+    let from = d .put-digits .result in
+    let digits = d .put-digits .last .0 in (
+      same (join (s .put-word .ensures) (w .put-word2 .ensures))
+          (ap (λ (k : List ℕ). 32 ∷ k) (tail digits 20 from (omega arith) ∙ d .put-digits .ensures .1)),
+      omega (arith, length-take (20 - from) (drop from digits)),
+    )
 
 pub put-number-spec : {M : Type 1} → statement M
 put-number-spec =

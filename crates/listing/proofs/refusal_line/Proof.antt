@@ -1,3 +1,5 @@
+use Rattle.listing.specs.Listing.{refusalLine}
+use Rattle.listing.proofs.Laws.{join}
 use borrow.Author.Needs.{needs}
 use Rattle.listing.proofs.refusal_line.Statement.{statement}
 use Rattle.listing.proofs.refusal_line.Tie as tie
@@ -33,7 +35,11 @@ same-length c = search needs
 
 -- src/lib.rt:125:1
 returns : tie.Need-returns
-returns c = ?
+unfolding refusalLine
+returns c = let e = c .before .before in
+    let p = e .before .before .before .before .before in
+    let n = p .before .before .before .before in
+    join (n .put-field .ensures .0) (join (p .put-number .ensures .0) (e .put-word .ensures))
 
 pub refusal-line-spec : {M : Type 1} → statement M
 refusal-line-spec =

@@ -1,3 +1,5 @@
+use Rattle.listing.specs.Listing.{totalsLine}
+use Rattle.listing.proofs.Laws.{join}
 use borrow.Author.Needs.{needs}
 use Rattle.listing.proofs.totals_line.Statement.{statement}
 use Rattle.listing.proofs.totals_line.Tie as tie
@@ -48,7 +50,16 @@ same-length c = search needs
 
 -- src/lib.rt:107:1
 returns : tie.Need-returns
-returns c = ?
+unfolding totalsLine
+returns c = let p = c .before .before in
+    let s = p .before .before .before .before in
+    let b = s .before .before .before .before .before in
+    let f = b .before .before .before .before .before in
+    let t = f .before .before .before .before .before in
+    join (t .put-field .ensures .0)
+    (join (f .put-field2 .ensures .0)
+    (join (b .put-field3 .ensures .0)
+    (join (s .put-field4 .ensures .0) (p .put-paired .ensures))))
 
 pub totals-line-spec : {M : Type 1} → statement M
 totals-line-spec =
