@@ -62,8 +62,3 @@ unfolding listed
 room {text} {buf} {after} {len} p =
     rw (le-leb (length text) (length buf) (omega (arith, p .ends, p .fits)))
     (record { answer = ap Len (omega (arith, p .ends)); buffer = p .bytes })
-
--- the line that was made is the one that is listed
-pub listed-front : (buf : List ℕ) {xs ys a after : List ℕ} {n : ℕ} {r : Listed} → Written xs 0 a ys n → Meets (listed (take n ys) buf) r after
-    → Meets (listed a buf) r after
-listed-front buf p m = rw (front p) at m
