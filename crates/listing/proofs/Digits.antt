@@ -1,4 +1,4 @@
--- Decimal digits: what they are worth, that none is a leading zero, and how a loop makes them from the last on. Assumes nothing.
+-- Decimal digits: what they are worth, that each is a digit and none a leading zero, and how a loop makes them from the last on. Assumes nothing.
 use mathlib.Core.Path.{_≡_, refl, sym, ap, _∙_}
 use mathlib.Core.List.{List, [], _∷_, _++_, append-assoc, append-nil}
 use Prim.Native.Nat.{ℕ, zero, suc, _+_, _-_, _*_, _^_, _/_, _%_, _≤_, _<_}
@@ -46,6 +46,25 @@ digits-worth (suc k) n h =
 
 pub decimal-worth : (n : ℕ) → n < 18446744073709551616 → worth 0 (decimal n) ≡ n
 decimal-worth n h = digits-worth 20 n (omega arith)
+
+-- each byte is a digit
+unfoldable pub Digits : List ℕ → Type 0
+Digits [] = Unit
+Digits (d ∷ ds) = (48 ≤ d) × (d ≤ 57) × Digits ds
+
+digits-last : (ds : List ℕ) (d : ℕ) → Digits ds → 48 ≤ d → d ≤ 57 → Digits (ds ++ (d ∷ []))
+unfolding Digits
+digits-last [] d p a b = (a, b, tt)
+digits-last (e ∷ ds) d p a b = (p .0, p .1, digits-last ds d (p .2) a b)
+
+pub digits-digits : (k n : ℕ) → Digits (digits k n)
+unfolding digits Digits
+digits-digits zero n = tt
+digits-digits (suc k) n =
+    elim (decLe 10 n) [
+      | yes l ↦ rw (long k n (omega arith)) (digits-last (digits k (n / 10)) (48 + n % 10) (digits-digits k (n / 10)) (omega arith) (omega arith))
+      | no l ↦ rw (short k n (omega arith)) (omega arith, omega arith, tt)
+    ]
 
 head-append : (xs ys : List ℕ) → 48 < getD xs 0 0 → 48 < getD (xs ++ ys) 0 0
 head-append [] ys h = absurd (omega arith)

@@ -1,6 +1,6 @@
--- What the functions cite: words put one after another, and decimal digits. Assumes nothing.
-use mathlib.Core.Path.{_≡_, refl, sym, ap, _∙_}
-use mathlib.Core.List.{List, [], _∷_, _++_, append-assoc}
+-- What the functions cite: words put one after another, and a line that fits or does not. Assumes nothing.
+use mathlib.Core.Path.{_≡_, refl, ap, _∙_}
+use mathlib.Core.List.{List, _++_, append-assoc}
 use Prim.Native.Nat.{ℕ, _+_, _-_, _≤_, _<_}
 use native.Mathlib.Numerals.{add-one}
 use native.Mathlib.Omega.{arith}
@@ -10,7 +10,6 @@ use lib.Seq.{paste, paste-suc, take-all, take-length, take-at}
 use Rattle.fields.specs.Le.{put}
 use Rattle.fields.proofs.Laws.{put-put, length-put}
 use Rattle.listing.specs.Listing.{listed, Meets}
-use Rattle.listing.specs.declared.Listed.{Listed}
 use Rattle.listing.specs.declared.Listed.the-variants.{Len, NoRoom}
 use Rattle.listing.specs.Written.{Written}
 
@@ -62,8 +61,3 @@ unfolding listed
 room {text} {buf} {after} {len} p =
     rw (le-leb (length text) (length buf) (omega (arith, p .ends, p .fits)))
     (record { answer = ap Len (omega (arith, p .ends)); buffer = p .bytes })
-
--- the line that was made is the one that is listed
-pub listed-front : (buf : List ℕ) {xs ys a after : List ℕ} {n : ℕ} {r : Listed} → Written xs 0 a ys n → Meets (listed (take n ys) buf) r after
-    → Meets (listed a buf) r after
-listed-front buf p m = rw (front p) at m

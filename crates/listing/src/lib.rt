@@ -47,7 +47,7 @@ fn put_number(out: &mut [u8], off: usize, n: u64) -> usize
     ensures { λ r. ⌜ Written (now (out .entry)) off (32 ∷ decimal n) (now (out .exit)) r ⌝ }
     ensures { λ r. ⌜ r ≤ off + 21 ⌝ }
 {
-    let mut digits = [48u8; 20];
+    let mut digits = [0u8; 20];
     let from = put_digits(&mut digits, n);
     let at = put_word(out, off, b" ");
     put_word(out, at, &digits[from..])

@@ -1,4 +1,5 @@
-use Rattle.listing.proofs.Laws.{front-length, listed-front}
+use Rattle.listing.specs.Listing.{chunkLine}
+use Rattle.listing.proofs.Laws.{front-length, front}
 use borrow.Author.Needs.{needs}
 use Rattle.listing.proofs.put_chunk_line.Statement.{statement}
 use Rattle.listing.proofs.put_chunk_line.Tie as tie
@@ -33,7 +34,10 @@ same-length c = search needs
 
 -- src/lib.rt:145:1
 returns : tie.Need-returns
-returns c = let l = c .before .before in listed-front (l .before .before .before .before .before .before .before .args .buf .now) (l .before .before .before .before .chunk-line .ensures) (l .put-line .ensures)
+returns c = let l = c .before .before in
+    let m = l .before .before .before .before in
+    let a = m .before .before .before .args in
+    rw (front {a = chunkLine (a .frame) (a .offset) (a .frames) (a .samples) (a .blocks)} (m .chunk-line .ensures)) at (l .put-line .ensures)
 
 pub put-chunk-line-spec : {M : Type 1} → statement M
 put-chunk-line-spec =

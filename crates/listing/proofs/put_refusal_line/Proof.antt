@@ -1,4 +1,4 @@
-use Rattle.listing.proofs.Laws.{front-length, listed-front}
+use Rattle.listing.proofs.Laws.{front-length, front}
 use borrow.Author.Needs.{needs}
 use Rattle.listing.proofs.put_refusal_line.Statement.{statement}
 use Rattle.listing.proofs.put_refusal_line.Tie as tie
@@ -33,7 +33,7 @@ same-length c = search needs
 
 -- src/lib.rt:175:1
 returns : tie.Need-returns
-returns c = let l = c .before .before in listed-front (l .before .before .before .before .before .before .before .args .buf .now) (l .before .before .before .before .refusal-line .ensures) (l .put-line .ensures)
+returns c = let l = c .before .before in rw (front (l .before .before .before .before .refusal-line .ensures)) at (l .put-line .ensures)
 
 pub put-refusal-line-spec : {M : Type 1} → statement M
 put-refusal-line-spec =

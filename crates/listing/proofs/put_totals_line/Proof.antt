@@ -1,4 +1,5 @@
-use Rattle.listing.proofs.Laws.{front-length, listed-front}
+use Rattle.listing.specs.Listing.{totalsLine}
+use Rattle.listing.proofs.Laws.{front-length, front}
 use borrow.Author.Needs.{needs}
 use Rattle.listing.proofs.put_totals_line.Statement.{statement}
 use Rattle.listing.proofs.put_totals_line.Tie as tie
@@ -33,7 +34,10 @@ same-length c = search needs
 
 -- src/lib.rt:160:1
 returns : tie.Need-returns
-returns c = let l = c .before .before in listed-front (l .before .before .before .before .before .before .before .args .buf .now) (l .before .before .before .before .totals-line .ensures) (l .put-line .ensures)
+returns c = let l = c .before .before in
+    let m = l .before .before .before .before in
+    let a = m .before .before .before .args in
+    rw (front {a = totalsLine (a .trailer) (a .frames) (a .blocks) (a .samples) (a .paired)} (m .totals-line .ensures)) at (l .put-line .ensures)
 
 pub put-totals-line-spec : {M : Type 1} → statement M
 put-totals-line-spec =
