@@ -1,0 +1,28 @@
+use Rattle.replay.proofs.Laws.{packet-ticks, packet-none}
+use borrow.Author.Needs.{needs}
+use Rattle.replay.proofs.packet_row.Statement.{statement}
+use Rattle.replay.proofs.packet_row.Tie as tie
+use Rattle.replay.proofs.packet_row.Reads as reads
+use Rattle.replay.proofs.packet_row.Lts as lts
+
+-- src/lib.rt:84:16
+cast-t5 : tie.Need-cast-t5
+cast-t5 c = search needs
+
+-- src/lib.rt:91:34
+enum-known-duration : tie.Need-enum-known-duration
+enum-known-duration c = search needs
+
+enum-told : tie.Need-enum-told
+enum-told c = search needs
+
+-- src/lib.rt:79:1
+returns : tie.Need-returns
+returns c = packet-ticks _ _ (c .before .duration .given .1)
+
+-- src/lib.rt:79:1
+returns-2 : tie.Need-returns-2
+returns-2 c = packet-none _ (c .enum-told .given .1)
+
+pub packet-row-spec : {M : Type 1} → statement M
+packet-row-spec = tie.close (tie.spec cast-t5 enum-known-duration enum-told returns returns-2)

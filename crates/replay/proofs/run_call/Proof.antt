@@ -1,0 +1,56 @@
+use mathlib.Core.Path.{ap, _∙_}
+use mir.Syntax.{w64}
+use mir.ValLaws.{toZ-ofZ}
+use Rattle.seek.specs.Seek.{seekOf}
+use Rattle.replay.proofs.Laws.{read-called, seek-called}
+use borrow.Author.Needs.{needs}
+use Rattle.replay.proofs.run_call.Statement.{statement}
+use Rattle.replay.proofs.run_call.Tie as tie
+use Rattle.replay.proofs.run_call.Reads as reads
+use Rattle.replay.proofs.run_call.Lts as lts
+use Rattle.demuxer.proofs.walker.Walker.next_packet.Reads as next-packet-reads
+use Rattle.replay.proofs.read_row.Reads as read-row-reads
+use Rattle.replay.proofs.seek_row.Reads as seek-row-reads
+use Rattle.seek.proofs.seek_to_via_index.Reads as seek-to-via-index-reads
+
+-- src/lib.rt:129:13
+next-packet-requires : tie.Need-next-packet-requires
+next-packet-requires c κs = search needs
+
+-- src/lib.rt:133:18
+read-row-requires : tie.Need-read-row-requires
+read-row-requires c κs = search needs
+
+-- src/lib.rt:132:9
+returns : tie.Need-returns
+returns c =
+    let a = c .before .before .before .before .before .before .args in
+    read-called (a .file .now) (a .table .now) (a .walker) (a .kind) (a .stream) (a .request) (c .before .before .next-packet .result) _ (c .before .before .before .if1 .taken)
+    (c .before .before .next-packet .ensures) (c .read-row .ensures)
+
+-- src/lib.rt:137:9
+seek-to-via-index-requires : tie.Need-seek-to-via-index-requires
+seek-to-via-index-requires c κs = search needs
+
+-- src/lib.rt:141:14
+seek-row-requires : tie.Need-seek-row-requires
+seek-row-requires c κs = search needs
+
+-- src/lib.rt:124:1
+returns-2 : tie.Need-returns-2
+returns-2 c =
+    let s = c .before .before .before .before .before .before in
+    let a = s .args in
+    seek-called (a .file .now) (a .table .now) (a .walker) (a .kind) (a .stream) (a .request) (c .before .before .seek-to-via-index .result) _ (c .before .before .before .if1 .left)
+    (c .before .before .seek-to-via-index .ensures ∙ ap (seekOf (a .table .now) (a .walker) (a .stream)) (toZ-ofZ w64 (a .request) (s .fits .request))) (c .seek-row .ensures)
+
+pub run-call-spec : {M : Type 1} → statement M
+run-call-spec =
+    tie.close
+    (tie.spec
+    next-packet-requires
+    read-row-requires
+    returns
+    seek-to-via-index-requires
+    seek-row-requires
+    returns-2)
