@@ -4,7 +4,7 @@ use mathlib.Core.Bool.{Bool, true, false, cond}
 use mathlib.Core.List.{List}
 use Prim.Native.Nat.{ℕ, _+_, _≤_, _<_}
 use native.Mathlib.Omega.{arith}
-use borrow.Author.Tests.{le-leb, lt-leb}
+use borrow.Author.Tests.{le-leb, lt-leb, leb-true}
 use lib.Dec.{leb}
 use lib.ListN.{length, take, drop, length-take, length-drop}
 use Rattle.fields.specs.Le.{le}
@@ -29,6 +29,12 @@ module _ (file : List ℕ) (start size : ℕ) where
           → (leb (start + size) (length file) ≡ true) × (s ≡ start) × (n ≡ size)
       go true p q = (p, cc, cc)
       go false p q = let z : _≡_ {A = ℕ} 0 1 = cc in absurd (omega arith)
+
+  pub body-placed : (s n : ℕ) → bodyAt file start size ≡ Whole s n → (s ≡ start) × (s + n ≤ length file)
+  body-placed s n e =
+      let b = body-whole s n e in
+      let l : start + size ≤ length file = leb-true _ _ (b .0) in
+      (b .1, omega (arith, l, b .1, b .2))
 
   -- the count of a payload of which fewer than 8 bytes are there
   pub count-short : size < 8 → countOf (take size (drop start file)) ≡ 0

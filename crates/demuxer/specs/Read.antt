@@ -1,5 +1,6 @@
 -- One read. Assumes nothing.
-use Prim.Native.Nat.{ℕ, _+_}
+use mathlib.Core.Path.{_≡_}
+use Prim.Native.Nat.{ℕ, _+_, _≤_}
 use mathlib.Core.Bool.{Bool, true, false, cond}
 use mathlib.Core.List.{List}
 use mathlib.Core.Option.{Option, none, some}
@@ -44,6 +45,12 @@ saidNext file (next.Err e) = refused (refusalOf e)
 
 abbrev pub saidRead : List ℕ → Read → Reading
 saidRead file r = record { answer = saidNext file (r .answer); walker = r .walker }
+
+-- "its payload (a part of the file)": it starts past the 8 bytes at the cursor, and the file has all of it
+abbrev pub Placed : List ℕ → Walker → NextPacket → Type 0
+Placed file w (next.Packet p) = (p .start ≡ w .position .cursor + 8) × (p .start + p .len ≤ length file)
+Placed file w next.End = Unit
+Placed file w (next.Err e) = Unit
 
 -- a refusal returns the walker that it was given
 abbrev pub refuse : ℕ → ℕ → Walker → Reading

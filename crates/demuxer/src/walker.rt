@@ -11,7 +11,7 @@ use crate::position::Position;
 use error::AmvError;
 ghost use mathlib.Core.Path.{_≡_};
 ghost use Rattle.demuxer.specs.Position.{InRange};
-ghost use Rattle.demuxer.specs.Read.{fresh, cutOff, atTrailer, advanced, saidRead, readFrame, readSound, readChunk, readOf};
+ghost use Rattle.demuxer.specs.Read.{fresh, cutOff, atTrailer, advanced, saidRead, Placed, readFrame, readSound, readChunk, readOf};
 
 // Where the trailer was met, if it was.
 pub enum Trailer {
@@ -86,6 +86,7 @@ impl Walker {
     fn read_frame(self, file: &[u8], size: u32) -> Read
         requires { ⌜ InRange (self .position) ⌝ }
         ensures { λ r. ⌜ saidRead (now (file .entry)) r ≡ readFrame (now (file .entry)) self size ⌝ }
+        ensures { λ r. ⌜ Placed (now (file .entry)) self (r .answer) ⌝ }
     {
         let position = self.position;
         let at = position.cursor as usize;
@@ -111,6 +112,7 @@ impl Walker {
     fn read_sound(self, file: &[u8], size: u32) -> Read
         requires { ⌜ InRange (self .position) ⌝ }
         ensures { λ r. ⌜ saidRead (now (file .entry)) r ≡ readSound (now (file .entry)) self size ⌝ }
+        ensures { λ r. ⌜ Placed (now (file .entry)) self (r .answer) ⌝ }
     {
         let position = self.position;
         let at = position.cursor as usize;
@@ -138,6 +140,7 @@ impl Walker {
     fn read_chunk(self, file: &[u8]) -> Read
         requires { ⌜ InRange (self .position) ⌝ }
         ensures { λ r. ⌜ saidRead (now (file .entry)) r ≡ readChunk (now (file .entry)) self ⌝ }
+        ensures { λ r. ⌜ Placed (now (file .entry)) self (r .answer) ⌝ }
     {
         let cursor = self.position.cursor;
         match head_at(file, cursor as usize) {
@@ -160,6 +163,7 @@ impl Walker {
 
     pub fn next_packet(self, file: &[u8]) -> Read
         ensures { λ r. ⌜ saidRead (now (file .entry)) r ≡ readOf (now (file .entry)) self ⌝ }
+        ensures { λ r. ⌜ Placed (now (file .entry)) self (r .answer) ⌝ }
     {
         if !fields::file::within_limit(file) {
             return Read {

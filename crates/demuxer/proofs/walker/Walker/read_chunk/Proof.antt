@@ -57,35 +57,35 @@ returns : tie.Need-returns
 unfolding readChunk
 returns c = let a = c .before .before .before .before .before .args in
     let head = sym (c .before .before .before .head-at .ensures) ∙ c .before .enum-told .given .1 in
-    (λ i. record { answer = End; walker = c .cut-off .ensures i }) ∙ sym (ap (readHead (a .file .now) (a .self)) head)
+    ((λ i. record { answer = End; walker = c .cut-off .ensures i }) ∙ sym (ap (readHead (a .file .now) (a .self)) head), tt)
 
 -- src/walker.rt:138:5
 returns-2 : tie.Need-returns-2
 unfolding readChunk
 returns-2 c = let a = c .before .before .before .before .before .args in
     let head = sym (c .before .before .before .head-at .ensures) ∙ c .before .enum-told2 .given .1 in
-    (λ i. record { answer = End; walker = c .at-trailer .ensures i }) ∙ sym (ap (readHead (a .file .now) (a .self)) head)
+    ((λ i. record { answer = End; walker = c .at-trailer .ensures i }) ∙ sym (ap (readHead (a .file .now) (a .self)) head), tt)
 
 -- src/walker.rt:138:5
 returns-3 : tie.Need-returns-3
 unfolding readChunk
 returns-3 c = let a = c .before .before .before .before .args in
     let head = sym (c .before .before .head-at .ensures) ∙ c .enum-told3 .given .1 in
-    sym (ap (readHead (a .file .now) (a .self)) head)
+    (sym (ap (readHead (a .file .now) (a .self)) head), tt)
 
 -- src/walker.rt:138:5
 returns-4 : tie.Need-returns-4
 unfolding readChunk
 returns-4 c = let a = c .before .before .before .before .before .before .args in
     let head = sym (c .before .before .before .before .head-at .ensures) ∙ c .before .before .size .given .1 in
-    c .read-frame .ensures ∙ sym (ap (readHead (a .file .now) (a .self)) head)
+    (c .read-frame .ensures .0 ∙ sym (ap (readHead (a .file .now) (a .self)) head), c .read-frame .ensures .1)
 
 -- src/walker.rt:138:5
 returns-5 : tie.Need-returns-5
 unfolding readChunk
 returns-5 c = let a = c .before .before .before .before .before .before .args in
     let head = sym (c .before .before .before .before .head-at .ensures) ∙ c .before .before .size2 .given .1 in
-    c .read-sound .ensures ∙ sym (ap (readHead (a .file .now) (a .self)) head)
+    (c .read-sound .ensures .0 ∙ sym (ap (readHead (a .file .now) (a .self)) head), c .read-sound .ensures .1)
 
 pub read-chunk-spec : {M : Type 1} → statement M
 read-chunk-spec =

@@ -1,6 +1,7 @@
 use mathlib.Core.Path.{_≡_, sym, ap, _∙_}
 use Rattle.demuxer.specs.Packet.{shownOf}
 use Rattle.demuxer.specs.Read.{End, packet, advanced}
+use Rattle.demuxer.proofs.Bodies.{body-placed}
 use Rattle.demuxer.proofs.Steps.{frame-short, frame-whole}
 use borrow.Author.Needs.{needs}
 use Rattle.demuxer.proofs.walker.Walker.read_frame.Statement.{statement}
@@ -37,7 +38,7 @@ returns : tie.Need-returns
 returns c =
     let a = c .before .before .before .before .before .before .args in
     let short = sym (c .before .before .before .body-at .ensures) ∙ c .before .enum-told .given .1 in
-    (λ i. record { answer = End; walker = c .cut-off .ensures i }) ∙ sym (frame-short (a .file .now) (a .self) (a .size) short)
+    ((λ i. record { answer = End; walker = c .cut-off .ensures i }) ∙ sym (frame-short (a .file .now) (a .self) (a .size) short), tt)
 
 -- src/walker.rt:107:35
 past-frame-requires : tie.Need-past-frame-requires
@@ -54,7 +55,7 @@ returns-2 c =
     let got = c .before .before .before .start .given in
     let whole = sym (c .before .before .before .before .before .body-at .ensures) ∙ got .1 in
     let next = c .advanced .ensures ∙ ap (advanced (a .self)) (c .before .past-frame .ensures) in
-    sym (frame-whole (a .file .now) (a .self) (a .size) _ _ _ whole next)
+    (sym (frame-whole (a .file .now) (a .self) (a .size) _ _ _ whole next), body-placed _ _ _ _ _ whole)
 
 pub read-frame-spec : {M : Type 1} → statement M
 read-frame-spec =

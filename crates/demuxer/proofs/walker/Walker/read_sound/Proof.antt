@@ -1,5 +1,6 @@
 use mathlib.Core.Path.{_≡_, sym, ap, _∙_}
 use Rattle.demuxer.specs.Read.{End, advanced}
+use Rattle.demuxer.proofs.Bodies.{body-placed}
 use Rattle.demuxer.proofs.Steps.{sound-short, sound-whole}
 use borrow.Author.Needs.{needs}
 use Rattle.demuxer.proofs.walker.Walker.read_sound.Statement.{statement}
@@ -38,7 +39,7 @@ returns : tie.Need-returns
 returns c =
     let a = c .before .before .before .before .before .before .args in
     let short = sym (c .before .before .before .body-at .ensures) ∙ c .before .enum-told .given .1 in
-    (λ i. record { answer = End; walker = c .cut-off .ensures i }) ∙ sym (sound-short (a .file .now) (a .self) (a .size) short)
+    ((λ i. record { answer = End; walker = c .cut-off .ensures i }) ∙ sym (sound-short (a .file .now) (a .self) (a .size) short), tt)
 
 -- src/walker.rt:123:13
 sample-count-requires : tie.Need-sample-count-requires
@@ -63,7 +64,7 @@ returns-2 c =
     let got = c .before .before .before .before .before .start .given in
     let whole = sym (c .before .before .before .before .before .before .before .body-at .ensures) ∙ got .1 in
     let next = c .advanced .ensures ∙ ap (advanced (a .self)) (c .before .past-sound .ensures) in
-    sym (sound-whole (a .file .now) (a .self) (a .size) _ _ _ _ _ whole (c .before .before .before .sample-count .ensures) (c .before .before .shown .ensures) next)
+    (sym (sound-whole (a .file .now) (a .self) (a .size) _ _ _ _ _ whole (c .before .before .before .sample-count .ensures) (c .before .before .shown .ensures) next), body-placed _ _ _ _ _ whole)
 
 pub read-sound-spec : {M : Type 1} → statement M
 read-sound-spec =
