@@ -216,6 +216,32 @@ pub fn seek_to_via_index(
     plain
 }
 
+/// The public seek of the original on the same records.
+pub fn public_seek(tally: &mut Tally, table: &[u8], given: Walker, stream: u32, request: i64) {
+    let private = told_seek(table, given, stream, request);
+    let expected = rules::public_seek(stream, request, given, private);
+    let mut state = given;
+    let told = original::public_seek(&plain::read_table(table), &mut state, stream, request);
+    let told = Some((told, state));
+    let same = original_agrees(tally, &expected, &told);
+    tally.judge("seek_to (original)", same, || {
+        format!(
+            "stream {stream} request {request} walker {given:?} table {}: {told:?}",
+            hex(table)
+        )
+    });
+}
+
+/// Whether the original's `open` takes the settings.
+pub fn opens(tally: &mut Tally, settings: &plain::Settings) {
+    let expected = rules::opens(settings);
+    let told = Some(original::opens(settings));
+    let same = original_agrees(tally, &expected, &told);
+    tally.judge("open (original)", same, || {
+        format!("{settings:?}: {told:?}")
+    });
+}
+
 fn told_seek(table: &[u8], mut state: Walker, stream: u32, request: i64) -> (Told<2>, Walker) {
     let records = plain::read_table(table);
     let told = original::seek(&records, &mut state, stream, request);

@@ -22,8 +22,10 @@ pub fn example() -> Vec<u8> {
 
 /// Files with chunks of telling lengths, each to be cut everywhere.
 pub fn shapes() -> Vec<Vec<u8>> {
-    let lengths: [&[(u32, usize)]; 5] = [
+    let lengths: [&[(u32, usize)]; 7] = [
         &[],
+        &[(AUDIO, 1), (AUDIO, 2), (AUDIO, 3), (AUDIO, 4)],
+        &[(AUDIO, 5), (AUDIO, 6), (VIDEO, 1), (AUDIO, 1)],
         &[(AUDIO, 7), (AUDIO, 8), (AUDIO, 9)],
         &[(VIDEO, 0), (AUDIO, 0), (VIDEO, 1)],
         &[(VIDEO, 8), (VIDEO, 9), (AUDIO, 12), (AUDIO, 3)],
@@ -175,13 +177,14 @@ pub fn prelude(random: &mut Random) -> Vec<u8> {
 }
 
 /// The words that decide where a walk goes.
-pub const WORDS: [[u8; 4]; 10] = [
+pub const WORDS: [[u8; 4]; 11] = [
     *b"00dc",
     *b"01wb",
     *b"AMV_",
     *b"END_",
     *b"00wb",
     0u32.to_le_bytes(),
+    1u32.to_le_bytes(),
     4u32.to_le_bytes(),
     8u32.to_le_bytes(),
     9u32.to_le_bytes(),

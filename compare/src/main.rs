@@ -7,11 +7,13 @@
 
 mod calls;
 mod files;
+mod large;
 mod library;
 mod lists;
 mod original;
 mod pieces;
 mod plain;
+mod programs;
 mod random;
 mod rules;
 mod suites;
@@ -48,9 +50,13 @@ fn main() -> ExitCode {
         tally.total(),
         started.elapsed()
     );
+    programs::listing(&mut tally, &mut random);
+    programs::ffmpeg(&mut tally);
+    large::suite(&mut tally);
     while tally.total() < count {
         suites::round(&mut tally, &mut random);
     }
+    rules_stand(&mut tally);
     tally.print();
     println!("seed {seed}, {:?}", started.elapsed());
     println!(
@@ -62,5 +68,17 @@ fn main() -> ExitCode {
         ExitCode::SUCCESS
     } else {
         ExitCode::FAILURE
+    }
+}
+
+/// Each rule has a row in docs/DIFFERENCES.md and was met; else the list or the inputs are out of date.
+fn rules_stand(tally: &mut tally::Tally) {
+    let list = include_str!("../../docs/DIFFERENCES.md");
+    for rule in rules::ALL {
+        let listed = list.contains(&format!("| {rule} |"));
+        let met = tally.times_met(rule) > 0;
+        tally.judge("rules", listed && met, || {
+            format!("{rule}: listed {listed}, met {met}")
+        });
     }
 }

@@ -2,7 +2,7 @@
 //! names. A text that names no place says `None`.
 
 use std::cell::RefCell;
-use std::io::{self, Cursor, Seek, SeekFrom, Write as _};
+use std::io::{self, Cursor, Seek, SeekFrom};
 use std::panic::{AssertUnwindSafe, catch_unwind};
 use std::rc::Rc;
 
@@ -10,9 +10,11 @@ use original::AmvDemuxerError;
 use original::demuxer::{AmvDemuxer, ChunkIndexEntry, WalkState};
 use original::muxer::{AmvMuxer, MuxState};
 use original::parse::{self, ChunkKind};
-use oxideav_core::{Demuxer, Error, Muxer, Packet, TimeBase};
+use oxideav_core::{
+    CodecId, CodecParameters, Demuxer, Error, Muxer, Packet, Rational, StreamInfo, TimeBase,
+};
 
-use crate::plain::{Record, Walker, Writer};
+use crate::plain::{Record, Settings, Walker, Writer};
 use crate::words::{Said, Write, accepted, refused};
 
 /// An answer of the original.
@@ -314,6 +316,26 @@ pub fn seek(records: &[Record], walker: &mut Walker, stream: u32, request: i64) 
     }
 }
 
+/// The public seek over the records. Its refusals have no number in 01: 42 stands for a stream that it does not know, and
+/// `NEGATIVE` for a request below 0.
+pub fn public_seek(records: &[Record], walker: &mut Walker, stream: u32, request: i64) -> Told<2> {
+    let mut demuxer = AmvDemuxer::over(Box::new(Cursor::new([])));
+    demuxer.set_index(records.iter().map(entry_of).collect());
+    demuxer.set_state(state_of(walker));
+    let answer = demuxer.seek_to(stream, request);
+    *walker = walker_of(demuxer.state());
+    match answer {
+        Ok(stamp) => Told::Said(accepted(&[stamp as u64])),
+        Err(Error::Invalid(text)) if text.contains("must be non-negative") => {
+            Told::Number(NEGATIVE)
+        }
+        Err(Error::Invalid(text)) if text.contains("stream_index must be 0") => Told::Number(42),
+        Err(_) => Told::Number(UNKNOWN_TEXT),
+    }
+}
+
+pub const NEGATIVE: u32 = 998;
+
 /// A buffer of fixed length as a writer. It is shared, so that its bytes can be seen when the muxer that held it is gone.
 struct Lent {
     bytes: Rc<RefCell<Vec<u8>>>,
@@ -439,4 +461,24 @@ impl Seek for Shared {
 
 pub fn prelude_bytes(writer: &Writer, duration: u32) -> Vec<u8> {
     original::muxer::prelude_bytes(mux_state(writer), duration)
+}
+
+/// Whether `open` takes the settings.
+pub fn opens(settings: &Settings) -> bool {
+    let stream = |index, params| StreamInfo {
+        index,
+        time_base: TimeBase::new(1, 1),
+        duration: None,
+        start_time: None,
+        params,
+    };
+    let mut video = CodecParameters::video(CodecId::new("video"));
+    video.width = Some(settings.width);
+    video.height = Some(settings.height);
+    video.frame_rate = Some(Rational::new(settings.fps as i64, 1));
+    let mut audio = CodecParameters::audio(CodecId::new("audio"));
+    audio.sample_rate = Some(settings.rate);
+    audio.channels = Some(settings.channels);
+    let writer = Box::new(Cursor::new(Vec::new()));
+    AmvMuxer::open(writer, &[stream(0, video), stream(1, audio)]).is_ok()
 }

@@ -1,8 +1,8 @@
 //! The known differences. Each rule has the name of its row in docs/DIFFERENCES.md, says when it applies, and says what the original
 //! then answers instead: a difference that the rule does not predict exactly fails.
 
-use crate::original::{Told, Wrote};
-use crate::plain::{self, Refusal, Walker, Writer};
+use crate::original::{NEGATIVE, Told, Wrote};
+use crate::plain::{self, Refusal, Settings, Walker, Writer};
 use crate::words::{Said, Write, accepted, read_words, refused};
 
 pub const CUT_SIZE: &str = "a tag that is there, its size cut";
@@ -17,9 +17,11 @@ pub const FAILED_WRITE: &str = "a write that fails";
 pub const AFTER_TRAILER: &str = "a packet or trailer after the trailer";
 pub const BEGUN_SHORT: &str = "begun with fewer than 316 bytes written";
 pub const WRITE_LIMIT: &str = "a write that ends past the file limit";
+pub const NEGATIVE_REQUESTS: &str = "negative requests";
+pub const OPEN: &str = "zero width, height, fps or rate, other channel counts";
 
 /// All of them, so that the driver can tell which were never met and which stand in no row.
-pub const ALL: [&str; 12] = [
+pub const ALL: [&str; 14] = [
     CUT_SIZE,
     FILE_LIMIT,
     WALKER_RANGE,
@@ -32,6 +34,8 @@ pub const ALL: [&str; 12] = [
     AFTER_TRAILER,
     BEGUN_SHORT,
     WRITE_LIMIT,
+    NEGATIVE_REQUESTS,
+    OPEN,
 ];
 
 /// What the original is expected to answer.
@@ -115,6 +119,32 @@ pub fn seek(
     };
     let stamp = plain::jump(&plain::read_table(table), &mut walker, stream, request);
     Expected::by(rule, (Told::Said(accepted(&[stamp])), walker))
+}
+
+/// Answer and walker of the public seek: it refuses what the private one takes or panics at, and then changes nothing.
+pub fn public_seek(
+    stream: u32,
+    request: i64,
+    walker: Walker,
+    private: (Told<2>, Walker),
+) -> Expected<(Told<2>, Walker)> {
+    if request < 0 {
+        Expected::by(NEGATIVE_REQUESTS, (Told::Number(NEGATIVE), walker))
+    } else if stream > 1 {
+        Expected::same((Told::Number(42), walker))
+    } else {
+        Expected::same(private)
+    }
+}
+
+/// Whether `open` takes the settings: 01's writer takes all.
+pub fn opens(settings: &Settings) -> Expected<bool> {
+    let zero = [settings.width, settings.height, settings.fps, settings.rate].contains(&0);
+    if zero || settings.channels != 1 {
+        Expected::by(OPEN, false)
+    } else {
+        Expected::same(true)
+    }
 }
 
 /// What a writing call says and leaves, with the buffer's bytes after it. `given` and `buf` are those before the call.

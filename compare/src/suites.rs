@@ -240,6 +240,9 @@ fn tables(tally: &mut Tally, random: &mut Random) {
             _ => random.below(24) as i64 - 2,
         };
         calls::seek_to_via_index(tally, table, &mut walker, stream, request);
+        if let Some(walker) = words::walker_of(&walker) {
+            calls::public_seek(tally, table, walker, stream, request);
+        }
     }
 }
 
@@ -255,7 +258,11 @@ fn random_writer(random: &mut Random, room: usize) -> WriterWords {
             height: random.word32(),
             fps: random.word32(),
             rate: random.word32(),
-            channels: random.word32() as u16,
+            channels: if random.once_in(2) {
+                1
+            } else {
+                random.word32() as u16
+            },
         },
         begun: !random.once_in(3),
         ended: random.once_in(6),
@@ -274,6 +281,9 @@ fn writers(tally: &mut Tally, random: &mut Random) {
     let mut buf = random.bytes(room);
     for _ in 0..3 {
         let given = random_writer(random, room);
+        if let Some(writer) = words::writer_of(&given) {
+            calls::opens(tally, &writer.settings);
+        }
         let payload = files::payload(random);
         let stream = if random.once_in(8) {
             random.word32()
