@@ -1,5 +1,5 @@
 -- What a call says, by its answer; and that words taken for a state and written back are the same.
-use mathlib.Core.Path.{_≡_, refl, sym, ap, _∙_}
+use mathlib.Core.Path.{_≡_, refl, sym, ap, subst, _∙_}
 use Prim.Native.Nat.{ℕ, _+_, _-_, _≤_}
 use mathlib.Core.Bool.{Bool, true, false, cond}
 use mathlib.Core.List.{List, [], _∷_}
@@ -14,6 +14,7 @@ use Rattle.demuxer.specs.Packet.{payloadOf, shownOf}
 use Rattle.demuxer.specs.Read.{Placed}
 use Rattle.demuxer.specs.declared.packet.Packet.{Packet}
 use Rattle.demuxer.specs.declared.walker.Walker.{Walker}
+use Rattle.demuxer.specs.declared.walker.NextPacket.{NextPacket}
 use Rattle.demuxer.specs.declared.walker.NextPacket.the-variants as next
 use Rattle.words.specs.Out.{Says, numberOf, outOf, packetWords, packetOut}
 
@@ -34,6 +35,10 @@ unfolding payloadOf
 length-payload file p h = rw (le-leb _ _ h) (length-take-le (p .len) (drop (p .start) file) (simp length-drop (omega arith)))
 
 -- where a packet's payload stands, and how long it is
-pub packet-placed : (file : List ℕ) (w : Walker) (p : Packet) → Placed file w (next.Packet p) → packetOut p ≡ 0 ∷ packetWords w (shownOf file p)
+pub packet-placed : (file : List ℕ) (w : Walker) (p : Packet) {answer : NextPacket} → answer ≡ next.Packet p → Placed file w answer
+    → packetOut p ≡ 0 ∷ packetWords w (shownOf file p)
 unfolding shownOf
-packet-placed file w p (s, h) = rw (length-payload file p h, s) refl
+packet-placed file w p t h = go (subst (λ (v : NextPacket). Placed file w v) t h)
+  where
+    go : Placed file w (next.Packet p) → packetOut p ≡ 0 ∷ packetWords w (shownOf file p)
+    go (s, l) = rw (length-payload file p l, s)
