@@ -7,11 +7,6 @@ use crate::tally::{Tally, hex};
 use crate::words::{self, Said, WalkerWords, Write, WriterWords, accepted, refused};
 use crate::{library, tally};
 
-/// Whether the library, where it has the call, agrees.
-fn library_agrees<T: PartialEq>(plain: &T, library: &Option<T>) -> bool {
-    library.as_ref().is_none_or(|answer| answer == plain)
-}
-
 /// Whether the original agrees with what is expected of it. The rule that was needed is entered.
 fn original_agrees<T: PartialEq>(
     tally: &mut Tally,
@@ -31,7 +26,7 @@ pub fn from_frame_count(tally: &mut Tally, frames: u64, fps: u32) {
     let plain = words::from_frame_count(frames, fps);
     let library = library::from_frame_count(frames, fps);
     let original = original::from_frame_count(frames, fps);
-    let same = library_agrees(&plain, &library) && plain == original;
+    let same = plain == library && plain == original;
     tally.judge("from_frame_count", same, || {
         format!("{frames} {fps}: plain {plain}, library {library:?}, original {original}")
     });
@@ -41,7 +36,7 @@ pub fn validate_movi_interleave(tally: &mut Tally, tags: &[u32]) {
     let plain = words::validate_movi_interleave(tags);
     let library = library::validate_movi_interleave(tags);
     let original = original::validate_movi_interleave(tags);
-    let same = library_agrees(&plain, &library) && original == Told::Said(plain);
+    let same = plain == library && original == Told::Said(plain);
     tally.judge("validate_movi_interleave", same, || {
         format!("{tags:x?}: plain {plain:?}, library {library:?}, original {original:?}")
     });
@@ -54,8 +49,7 @@ pub fn parse(tally: &mut Tally, file: &[u8]) {
         let library = library::parse(file, strict);
         let original = original::parse(file, strict);
         let expected = rules::parse(plain);
-        let same =
-            library_agrees(&plain, &library) & original_agrees(tally, &expected, &Some(original));
+        let same = (plain == library) & original_agrees(tally, &expected, &Some(original));
         let function = if strict { "parse_strict" } else { "parse" };
         tally.judge(function, same, || {
             format!(
@@ -87,9 +81,8 @@ pub fn next_packet(
         let told = original.next_packet(&mut state);
         (told, state)
     });
-    let left_same = library.is_none() || library_walker == *walker;
-    let same =
-        library_agrees(&plain, &library) & left_same & original_agrees(tally, &expected, &told);
+    let left_same = library_walker == *walker;
+    let same = (plain == library) & left_same & original_agrees(tally, &expected, &told);
     tally.judge("next_packet", same, || {
         format!(
             "{given:?} on {}: plain {plain:?} {walker:?}, library {library:?} {library_walker:?}, original {told:?}",
@@ -141,8 +134,7 @@ pub fn build_chunk_index(
     let plain = words::build_chunk_index(file, &mut table);
     let mut lent = Guarded::new(&given);
     let library = library::build_chunk_index(file, lent.lent());
-    let library_same =
-        library_agrees(&plain, &library) && (library.is_none() || lent.holds(&table));
+    let library_same = plain == library && lent.holds(&table);
     let original_same = index_agrees(tally, plain, original.records(), file);
     tally.judge("build_chunk_index", library_same && original_same, || {
         format!(
@@ -204,9 +196,8 @@ pub fn seek_to_via_index(
         .as_ref()
         .and(words::walker_of(&given))
         .map(|state| told_seek(table, state, stream, request));
-    let left_same = library.is_none() || library_walker == *walker;
-    let same =
-        library_agrees(&plain, &library) & left_same & original_agrees(tally, &expected, &told);
+    let left_same = library_walker == *walker;
+    let same = (plain == library) & left_same & original_agrees(tally, &expected, &told);
     tally.judge("seek_to_via_index", same, || {
         format!(
             "stream {stream} request {request} walker {given:?} table {}: plain {plain:?} {walker:?}, library {library:?} {library_walker:?}, original {told:?}",
@@ -260,7 +251,7 @@ pub fn summary(tally: &mut Tally, original: &mut original::File, file: &[u8]) {
             accepted(&[frames as u64, (records.len() - frames) as u64])
         }
     };
-    let same = library_agrees(&plain, &library) && plain == counted;
+    let same = plain == library && plain == counted;
     tally.judge("summary", same, || {
         format!(
             "{}: plain {plain:?}, library {library:?}, original {counted:?}",
@@ -276,7 +267,7 @@ pub fn check(tally: &mut Tally, file: &[u8]) -> bool {
     let finished = plain::finished(file);
     let by_grammar = finished.as_deref().map(|chunks| drain_totals(file, chunks));
     let grammar_same = by_grammar == (plain.number == 0).then_some(plain);
-    let same = library_agrees(&plain, &library) && grammar_same;
+    let same = plain == library && grammar_same;
     tally.judge("check", same, || {
         format!(
             "{}: plain {plain:?}, library {library:?}, grammar {by_grammar:?}",
@@ -319,8 +310,7 @@ pub fn write(
     let plain = words::write(writer, buf, call);
     let mut library_writer = given;
     let library = library::write(&mut library_writer, lent.lent(), call);
-    let library_same = library_agrees(&plain, &library)
-        && (library.is_none() || library_writer == *writer && lent.holds(buf));
+    let library_same = plain == library && library_writer == *writer && lent.holds(buf);
     let told = expected
         .answer
         .as_ref()

@@ -33,9 +33,9 @@ fn judge<T: PartialEq + std::fmt::Debug>(
     name: &'static str,
     expected: T,
     plain: T,
-    library: Option<T>,
+    library: T,
 ) {
-    let same = plain == expected && library.as_ref().is_none_or(|said| *said == expected);
+    let same = plain == expected && library == expected;
     tally.judge(name, same, || {
         format!("expected {expected:?}, plain {plain:?}, library {library:?}")
     });
@@ -69,8 +69,8 @@ fn read(tally: &mut Tally, file: &[u8], expected: (Said<7>, words::WalkerWords))
     let mut walker = words::walker_words(&Walker::fresh());
     let mut library_walker = walker;
     let plain = words::next_packet(file, &mut walker);
-    let library =
-        library::next_packet(file, &mut library_walker).map(|said| (said, library_walker));
+    let library = library::next_packet(file, &mut library_walker);
+    let library = (library, library_walker);
     judge(tally, "next_packet", expected, (plain, walker), library);
 }
 
@@ -94,8 +94,8 @@ fn beyond(tally: &mut Tally, file: &[u8]) {
     read(tally, file, (refused(10, 0), fresh));
     let (mut table, mut library_table) = ([0xc3; 24], [0xc3; 24]);
     let plain = words::build_chunk_index(file, &mut table);
-    let library =
-        library::build_chunk_index(file, &mut library_table).map(|said| (said, library_table));
+    let library = library::build_chunk_index(file, &mut library_table);
+    let library = (library, library_table);
     let expected = (refused(10, 0), [0xc3; 24]);
     judge(
         tally,
@@ -125,8 +125,8 @@ fn long_payload(tally: &mut Tally, payload: &[u8]) {
     let expected = (refused(52, 316), given, buf);
     let call = Write::Packet(payload, 0);
     let plain = words::write(&mut plain_writer, &mut buf, call);
-    let library = library::write(&mut library_writer, &mut library_buf, call)
-        .map(|said| (said, library_writer, library_buf));
+    let library = library::write(&mut library_writer, &mut library_buf, call);
+    let library = (library, library_writer, library_buf);
     judge(
         tally,
         "write_packet",
@@ -167,8 +167,9 @@ fn write_at_limit(tally: &mut Tally, given: &Writer, buf: &mut Vec<u8>, call: Wr
     let plain = (said, writer, tail(buf));
     fill(buf);
     let mut writer = words;
-    let library = library::write(&mut writer, buf, call).map(|said| (said, writer, tail(buf)));
-    let same = library.as_ref().is_none_or(|library| *library == plain);
+    let said = library::write(&mut writer, buf, call);
+    let library = (said, writer, tail(buf));
+    let same = library == plain;
     tally.judge("writes at the limit", same, || {
         format!("{call:?} on {words:?}: plain {plain:?}, library {library:?}")
     });
