@@ -26,6 +26,16 @@ pub fn suite(tally: &mut Tally) {
     beyond(tally, &file);
     long_payload(tally, &file);
     writes(tally, &mut file);
+    tally.equal("write_packet", 52, original::write_by_value(file), || {
+        "a payload past the limit".into()
+    });
+    let file = full_recording();
+    let records = plain::records(&file[..LIMIT]).ok();
+    let told = original::records_by_value(file);
+    tally.equal("build_chunk_index", records, told, || {
+        "a file past the limit".into()
+    });
+    tally.met(rules::FILE_LIMIT);
 }
 
 fn judge<T: PartialEq + std::fmt::Debug>(

@@ -463,6 +463,22 @@ pub fn prelude_bytes(writer: &Writer, duration: u32) -> Vec<u8> {
     original::muxer::prelude_bytes(mux_state(writer), duration)
 }
 
+/// The number that a begun muxer gives to a frame with that payload, which goes by value because it may be very long.
+pub fn write_by_value(payload: Vec<u8>) -> u32 {
+    let mut writer = Writer::fresh(crate::files::EXAMPLE_SETTINGS);
+    writer.begun = true;
+    let mut muxer = AmvMuxer::over(Box::new(Cursor::new(Vec::new())), mux_state(&writer));
+    let answer = muxer.write_packet(&Packet::new(0, TimeBase::new(1, 1), payload));
+    answer.map_or_else(|error| writer_number(&error), |()| 0)
+}
+
+/// The records of a file that goes by value.
+pub fn records_by_value(file: Vec<u8>) -> Option<Vec<Record>> {
+    let mut demuxer = AmvDemuxer::over(Box::new(Cursor::new(file)));
+    demuxer.build_chunk_index().ok()?;
+    Some(demuxer.chunk_index()?.iter().map(record_of).collect())
+}
+
 /// Whether `open` takes the settings.
 pub fn opens(settings: &Settings) -> bool {
     let stream = |index, params| StreamInfo {
