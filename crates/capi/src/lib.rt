@@ -30,7 +30,7 @@ ghost use Rattle.prelude.specs.Prelude.{saidPrelude, parseOf, strictOf};
 ghost use Rattle.chunk_index.specs.Index.{buildOf};
 ghost use Rattle.muxer.specs.Writer.{headerCall, packetCall, trailerCall};
 ghost use Rattle.words.specs.Out.{Says, checked};
-ghost use Rattle.capi.specs.Calls.{summaryAnswer, checkAnswer, indexAnswer, parseAnswer, nextAnswer, nextWalker, seekAnswer, seekWalker, Writes};
+ghost use Rattle.capi.specs.Calls.{summaryAnswer, checkAnswer, indexAnswer, parseAnswer, Walks, nextAnswer, nextWalker, seekAnswer, seekWalker, Writes};
 
 #[no_mangle]
 pub extern "C" fn amv_from_frame_count(frames: u64, fps: u32) -> u32
@@ -130,8 +130,7 @@ pub extern "C" fn amv_parse(file: &[u8], strict: bool, out: &mut [u64; 16]) -> u
 
 #[no_mangle]
 pub extern "C" fn amv_next_packet(file: &[u8], walker: &mut [u64; 7], out: &mut [u64; 7]) -> u32
-    ensures { λ r. ⌜ Says 7 (nextAnswer (now (file .entry)) (now (walker .entry))) r (now (out .exit)) ⌝ }
-    ensures { λ _. ⌜ now (walker .exit) ≡ nextWalker (now (file .entry)) (now (walker .entry)) ⌝ }
+    ensures { λ r. ⌜ Walks 7 (nextAnswer (now (file .entry))) (nextWalker (now (file .entry))) (now (walker .entry)) r (now (out .exit)) (now (walker .exit)) ⌝ }
 {
     let WalkerState::Legal(state) = walker_of(*walker) else {
         *out = [0; 7];
@@ -165,8 +164,7 @@ pub extern "C" fn amv_seek_to_via_index(
     request: i64,
     out: &mut [u64; 2],
 ) -> u32
-    ensures { λ r. ⌜ Says 2 (seekAnswer (now (table .entry)) (now (walker .entry)) stream request) r (now (out .exit)) ⌝ }
-    ensures { λ _. ⌜ now (walker .exit) ≡ seekWalker (now (table .entry)) (now (walker .entry)) stream request ⌝ }
+    ensures { λ r. ⌜ Walks 2 (seekAnswer (now (table .entry)) stream request) (seekWalker (now (table .entry)) stream request) (now (walker .entry)) r (now (out .exit)) (now (walker .exit)) ⌝ }
 {
     let WalkerState::Legal(state) = walker_of(*walker) else {
         *out = [0, 0];
