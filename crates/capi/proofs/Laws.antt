@@ -2,13 +2,18 @@
 use mathlib.Core.Path.{_≡_, refl, sym, ap, subst, _∙_}
 use Prim.Native.Nat.{ℕ, _-_}
 use mathlib.Core.List.{List, [], _∷_}
+use lib.IntN.{ℤ}
 use lib.ListN.{replicate}
+use mir.Syntax.{w64}
+use mir.Val.{SFits, toZ, ofZ}
+use mir.ValLaws.{toZ-ofZ}
 use Rattle.error.specs.Answer.{Answer, accepted, refused, numbered, andThen}
 use Rattle.error.specs.Refusal.{said}
 use Rattle.demuxer.specs.Read.{saidNext, saidRead, readOf}
 use Rattle.demuxer.specs.declared.walker.Walker.{Walker}
 use Rattle.demuxer.specs.declared.walker.Read.{Read}
 use Rattle.demuxer.specs.declared.walker.NextPacket.{NextPacket}
+use Rattle.seek.specs.Seek.{Seeking, seekOf}
 use Rattle.muxer.specs.Writer.{Outcome, Meets}
 use Rattle.muxer.specs.declared.Writer.{Writer}
 use Rattle.muxer.specs.declared.Wrote.{Wrote}
@@ -57,6 +62,11 @@ module _ (n : ℕ) (answer : Walker → Answer (List ℕ)) (next : Walker → Wa
 pub read-gave : (file : List ℕ) (w : Walker) {r : Read} {v : NextPacket} → saidRead file r ≡ readOf file w → r .answer ≡ v
     → nextAnswer file w ≡ readWords w (saidNext file v)
 read-gave file w e t = ap (λ q. readWords w (q .answer)) (sym e) ∙ ap (λ v. readWords w (saidNext file v)) t
+
+-- a signed request goes to the seek as 64 bits, which give the same number
+pub as-requested : (table : List ℕ) (w : Walker) (stream : ℕ) (request : ℤ) {q : Seeking} → SFits w64 request
+    → q ≡ seekOf table w stream (toZ w64 (ofZ w64 request)) → q ≡ seekOf table w stream request
+as-requested table w stream request f e = e ∙ ap (seekOf table w stream) (toZ-ofZ w64 request f)
 
 -- ---- a writing call
 

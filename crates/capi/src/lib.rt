@@ -11,7 +11,6 @@ use recording::check::CheckResult;
 use recording::check::check;
 use seek::SeekResult;
 use seek::seek_to_via_index;
-use words::out::ILLEGAL_STATE;
 use words::out::packet_out;
 use words::out::prelude_out;
 use words::out::result_out;
@@ -31,6 +30,9 @@ ghost use Rattle.chunk_index.specs.Index.{buildOf};
 ghost use Rattle.muxer.specs.Writer.{headerCall, packetCall, trailerCall};
 ghost use Rattle.words.specs.Out.{Says, checked};
 ghost use Rattle.capi.specs.Calls.{summaryAnswer, checkAnswer, indexAnswer, parseAnswer, Walks, nextAnswer, nextWalker, seekAnswer, seekWalker, Writes};
+
+// The number of a call whose state's words are not all in their fields' ranges.
+const ILLEGAL_STATE: u32 = 1;
 
 #[no_mangle]
 pub extern "C" fn amv_from_frame_count(frames: u64, fps: u32) -> u32
@@ -187,11 +189,7 @@ pub extern "C" fn amv_seek_to_via_index(
 }
 
 #[no_mangle]
-pub extern "C" fn amv_write_header(
-    writer: &mut [u64; 9],
-    buf: &mut [u8],
-    out: &mut [u64; 1],
-) -> u32
+pub extern "C" fn amv_write_header(writer: &mut [u64; 9], buf: &mut [u8], out: &mut [u64; 1]) -> u32
     ensures { λ r. ⌜ Writes (λ w. headerCall w (now (buf .entry))) (now (writer .entry)) (now (buf .entry)) r (now (out .exit)) (now (writer .exit)) (now (buf .exit)) ⌝ }
 {
     let WriterState::Legal(state) = writer_of(*writer) else {

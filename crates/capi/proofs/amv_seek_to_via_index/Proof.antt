@@ -1,11 +1,9 @@
 use mathlib.Core.Path.{refl, ap, _∙_}
-use mir.Syntax.{w64}
-use mir.ValLaws.{toZ-ofZ}
-use Rattle.seek.specs.Seek.{saidSeek, seekOf}
+use Rattle.seek.specs.Seek.{saidSeek}
 use Rattle.words.specs.State.{saidWalker, walkerWords}
 use Rattle.words.proofs.Laws.{says-accepted, says-refused}
 use Rattle.capi.specs.Calls.{single, seekAnswer, seekWalker}
-use Rattle.capi.proofs.Laws.{known, gave, walks-illegal, walks}
+use Rattle.capi.proofs.Laws.{known, gave, walks-illegal, walks, as-requested}
 use borrow.Author.Needs.{needs}
 use Rattle.capi.proofs.amv_seek_to_via_index.Statement.{statement}
 use Rattle.capi.proofs.amv_seek_to_via_index.Tie as tie
@@ -65,7 +63,7 @@ returns-2 c =
     let a = b .args in
     let s = c .before .before .before .before .before .before .before .before in
     let r = c .before .before .before .before .before .before .seek-to-via-index in
-    let e = r .ensures ∙ ap (seekOf (a .table .now) (s .state .given .0 .0) (a .stream)) (toZ-ofZ w64 (a .request) (b .fits .request)) in
+    let e = as-requested (a .table .now) (s .state .given .0 .0) (a .stream) (a .request) (b .fits .request) (r .ensures) in
     walks 2 (seekAnswer (a .table .now) (a .stream) (a .request)) (seekWalker (a .table .now) (a .stream) (a .request)) _ (known saidWalker (s .before .before .walker-of .ensures) (s .state .given .1))
     (says-accepted 2 (gave saidSeek single (ap (λ q. q .answer) e) (c .before .before .result .given .1)) refl)
     (c .before .before .before .before .walker-words .ensures ∙ ap (λ q. walkerWords (q .walker)) e)
@@ -77,7 +75,7 @@ returns-3 c =
     let a = b .args in
     let s = c .before .before .before .before .before .before .before .before .before .before in
     let r = c .before .before .before .before .before .before .before .before .seek-to-via-index in
-    let e = r .ensures ∙ ap (seekOf (a .table .now) (s .state .given .0 .0) (a .stream)) (toZ-ofZ w64 (a .request) (b .fits .request)) in
+    let e = as-requested (a .table .now) (s .state .given .0 .0) (a .stream) (a .request) (b .fits .request) (r .ensures) in
     walks 2 (seekAnswer (a .table .now) (a .stream) (a .request)) (seekWalker (a .table .now) (a .stream) (a .request)) _ (known saidWalker (s .before .before .walker-of .ensures) (s .state .given .1))
     (says-refused 2 (gave saidSeek single (ap (λ q. q .answer) e) (c .before .before .before .before .result2 .given .1)) (c .number .ensures)
     (c .before .before .place .ensures))
