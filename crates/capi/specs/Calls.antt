@@ -7,6 +7,7 @@ use lib.IntN.{ℤ}
 use Rattle.error.specs.Answer.{Answer, andThen}
 use Rattle.prelude.specs.Prelude.{parseOf, strictOf}
 use Rattle.demuxer.specs.Read.{readOf}
+use Rattle.demuxer.specs.declared.walker.Walker.{Walker}
 use Rattle.chunk_index.specs.Index.{buildOf, summaryOf}
 use Rattle.chunk_index.specs.declared.index.ChunkCounts.{ChunkCounts}
 use Rattle.seek.specs.Seek.{seekOf}
@@ -43,26 +44,27 @@ indexAnswer file table = given single (buildOf file table .answer)
 abbrev pub parseAnswer : List ℕ → Bool → Answer (List ℕ)
 parseAnswer file strict = given preludeWords (cond strict (strictOf file) (parseOf file))
 
--- a packet or End, from the walker's words
-abbrev pub nextAnswer : List ℕ → List ℕ → Answer (List ℕ)
-nextAnswer file ws = andThen (walkerOf ws) (λ w. readWords w (readOf file w .answer))
+-- a call over a walker's words, what it answers and the walker after it: what it returns and leaves in `out`, of n words, and in the words
+pub record Walks (n : ℕ) (answer : Walker → Answer (List ℕ)) (next : Walker → Walker) (ws : List ℕ) (returned : ℕ) (out wsAfter : List ℕ) : Type 0 where
+  pub says : Says n (andThen (walkerOf ws) answer) returned out
+  pub walker : wsAfter ≡ unlessRefused ws (walkerOf ws) (λ w. walkerWords (next w))
 
-abbrev pub nextWalker : List ℕ → List ℕ → List ℕ
-nextWalker file ws = unlessRefused ws (walkerOf ws) (λ w. walkerWords (readOf file w .walker))
+-- a packet or End
+abbrev pub nextAnswer : List ℕ → Walker → Answer (List ℕ)
+nextAnswer file w = readWords w (readOf file w .answer)
 
--- the stamp, from the walker's words
-abbrev pub seekAnswer : List ℕ → List ℕ → ℕ → ℤ → Answer (List ℕ)
-seekAnswer table ws stream request = andThen (walkerOf ws) (λ w. given single (seekOf table w stream request .answer))
+abbrev pub nextWalker : List ℕ → Walker → Walker
+nextWalker file w = readOf file w .walker
 
-abbrev pub seekWalker : List ℕ → List ℕ → ℕ → ℤ → List ℕ
-seekWalker table ws stream request = unlessRefused ws (walkerOf ws) (λ w. walkerWords (seekOf table w stream request .walker))
+-- the stamp
+abbrev pub seekAnswer : List ℕ → ℕ → ℤ → Walker → Answer (List ℕ)
+seekAnswer table stream request w = given single (seekOf table w stream request .answer)
 
--- a writing call from the writer's words
-abbrev pub writeAnswer : (Writer → Outcome) → List ℕ → Answer (List ℕ)
-writeAnswer call ws = andThen (writerOf ws) (λ w. checked (call w .answer))
+abbrev pub seekWalker : List ℕ → ℕ → ℤ → Walker → Walker
+seekWalker table stream request w = seekOf table w stream request .walker
 
--- what it returns and leaves: `out`, the writer's words and the buffer
+-- a writing call over a writer's words: what it returns and leaves in `out`, the words and the buffer
 pub record Writes (call : Writer → Outcome) (ws buf : List ℕ) (returned : ℕ) (out wsAfter bufAfter : List ℕ) : Type 0 where
-  pub says : Says 1 (writeAnswer call ws) returned out
+  pub says : Says 1 (andThen (writerOf ws) (λ w. checked (call w .answer))) returned out
   pub writer : wsAfter ≡ unlessRefused ws (writerOf ws) (λ w. writerWords (call w .writer))
   pub buffer : bufAfter ≡ unlessRefused buf (writerOf ws) (λ w. call w .buffer)

@@ -11,7 +11,6 @@ use recording::check::CheckResult;
 use recording::check::check;
 use seek::SeekResult;
 use seek::seek_to_via_index;
-use words::out::ILLEGAL_STATE;
 use words::out::packet_out;
 use words::out::prelude_out;
 use words::out::result_out;
@@ -30,7 +29,10 @@ ghost use Rattle.prelude.specs.Prelude.{saidPrelude, parseOf, strictOf};
 ghost use Rattle.chunk_index.specs.Index.{buildOf};
 ghost use Rattle.muxer.specs.Writer.{headerCall, packetCall, trailerCall};
 ghost use Rattle.words.specs.Out.{Says, checked};
-ghost use Rattle.capi.specs.Calls.{summaryAnswer, checkAnswer, indexAnswer, parseAnswer, nextAnswer, nextWalker, seekAnswer, seekWalker, Writes};
+ghost use Rattle.capi.specs.Calls.{summaryAnswer, checkAnswer, indexAnswer, parseAnswer, Walks, nextAnswer, nextWalker, seekAnswer, seekWalker, Writes};
+
+// The number of a call whose state's words are not all in their fields' ranges.
+const ILLEGAL_STATE: u32 = 1;
 
 #[no_mangle]
 pub extern "C" fn amv_from_frame_count(frames: u64, fps: u32) -> u32
@@ -130,8 +132,7 @@ pub extern "C" fn amv_parse(file: &[u8], strict: bool, out: &mut [u64; 16]) -> u
 
 #[no_mangle]
 pub extern "C" fn amv_next_packet(file: &[u8], walker: &mut [u64; 7], out: &mut [u64; 7]) -> u32
-    ensures { λ r. ⌜ Says 7 (nextAnswer (now (file .entry)) (now (walker .entry))) r (now (out .exit)) ⌝ }
-    ensures { λ _. ⌜ now (walker .exit) ≡ nextWalker (now (file .entry)) (now (walker .entry)) ⌝ }
+    ensures { λ r. ⌜ Walks 7 (nextAnswer (now (file .entry))) (nextWalker (now (file .entry))) (now (walker .entry)) r (now (out .exit)) (now (walker .exit)) ⌝ }
 {
     let WalkerState::Legal(state) = walker_of(*walker) else {
         *out = [0; 7];
@@ -165,8 +166,7 @@ pub extern "C" fn amv_seek_to_via_index(
     request: i64,
     out: &mut [u64; 2],
 ) -> u32
-    ensures { λ r. ⌜ Says 2 (seekAnswer (now (table .entry)) (now (walker .entry)) stream request) r (now (out .exit)) ⌝ }
-    ensures { λ _. ⌜ now (walker .exit) ≡ seekWalker (now (table .entry)) (now (walker .entry)) stream request ⌝ }
+    ensures { λ r. ⌜ Walks 2 (seekAnswer (now (table .entry)) stream request) (seekWalker (now (table .entry)) stream request) (now (walker .entry)) r (now (out .exit)) (now (walker .exit)) ⌝ }
 {
     let WalkerState::Legal(state) = walker_of(*walker) else {
         *out = [0, 0];
@@ -189,11 +189,7 @@ pub extern "C" fn amv_seek_to_via_index(
 }
 
 #[no_mangle]
-pub extern "C" fn amv_write_header(
-    writer: &mut [u64; 9],
-    buf: &mut [u8],
-    out: &mut [u64; 1],
-) -> u32
+pub extern "C" fn amv_write_header(writer: &mut [u64; 9], buf: &mut [u8], out: &mut [u64; 1]) -> u32
     ensures { λ r. ⌜ Writes (λ w. headerCall w (now (buf .entry))) (now (writer .entry)) (now (buf .entry)) r (now (out .exit)) (now (writer .exit)) (now (buf .exit)) ⌝ }
 {
     let WriterState::Legal(state) = writer_of(*writer) else {

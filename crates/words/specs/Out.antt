@@ -41,7 +41,7 @@ abbrev pub unlessRefused : {S : Type 0} → List ℕ → Answer S → (S → Lis
 unlessRefused before (accepted s) after = after s
 unlessRefused before (refused r) after = before
 
--- "duration (0 none)"
+-- no duration is 0
 abbrev pub shownDuration : Option ℕ → ℕ
 shownDuration (some n) = n
 shownDuration none = 0
@@ -49,12 +49,12 @@ shownDuration none = 0
 abbrev pub durationWord : PacketDuration → ℕ
 durationWord d = shownDuration (ticks d)
 
--- "1 packet or 0 End, stream, payload offset, payload length, stamp, duration": the payload starts past the 8 bytes at the cursor
+-- a packet: 1, stream, the payload's offset and length, stamp, duration. The payload starts past the 8 bytes at the cursor.
 abbrev pub packetWords : Walker → Shown → List ℕ
 packetWords w p =
     1 ∷ p .stream ∷ (w .position .cursor + 8) ∷ length (p .payload) ∷ p .stamp ∷ shownDuration (p .duration) ∷ []
 
--- a read's answer as words; "on End all of `out` is" 0
+-- what a read gives: a packet's words, or zeros for End
 abbrev pub readWords : Walker → ReadAnswer → Answer (List ℕ)
 readWords w (packet p) = accepted (packetWords w p)
 readWords w End = accepted (replicate 6 0)
@@ -64,7 +64,7 @@ readWords w (read.refused r) = refused r
 abbrev pub packetOut : Packet → List ℕ
 packetOut p = 0 ∷ 1 ∷ p .stream ∷ p .start ∷ p .len ∷ p .stamp ∷ durationWord (p .duration) ∷ []
 
--- "micros, width, height, fps, flag, reserved, packed duration, format, channels, rate, average, align, bits, cbSize, movi start"
+-- the fields of a prelude in offset order, and the first chunk's offset
 abbrev pub preludeWords : AmvPrelude → List ℕ
 preludeWords p =
     let h = p .header in

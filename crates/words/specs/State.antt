@@ -37,11 +37,11 @@ abbrev pub trailerWord : Trailer → ℕ
 trailerWord (At n) = n
 trailerWord NotMet = notMet
 
--- "a state word outside its field's range" is refused with 1 at 0, before 01's questions
+-- words outside their fields' ranges spell no state: a call refuses them with 1 at 0, before 01's questions
 abbrev pub askState : {S : Type 0} → Bool → S → Answer S
 askState legal s = ask legal 1 0 (accepted s)
 
--- a walker: cursor, frames, samples, blocks, end, cut, trailer. Its numbers may be as large as a word: how large they may be, 32 asks.
+-- a walker: cursor, frames, samples, blocks, end, cut, trailer. A cursor or a count that is too large is for 32 to refuse.
 unfoldable pub walkerLegal : List ℕ → Bool
 walkerLegal ws = leb (word ws 4) 1 && leb (word ws 5) 1
 
@@ -99,8 +99,11 @@ abbrev pub saidWriter : WriterState → Answer Writer
 saidWriter (writer.Legal w) = accepted w
 saidWriter writer.Illegal = refused (numbered 1 0)
 
--- A state's words stand for it: taken for a state and written back they are the same, so a refusal, which returns the state that it
--- was given, changes no word.
-pub record WordsKept : Type 0 where
-  pub walker : (ws : List ℕ) (w : Walker) → length ws ≡ 7 → walkerOf ws ≡ accepted w → walkerWords w ≡ ws
-  pub writer : (ws : List ℕ) (w : Writer) → length ws ≡ 9 → writerOf ws ≡ accepted w → writerWords w ≡ ws
+-- The words stand for the state. Taken for a state and written back they are the same, so a refusal, which returns the state that it
+-- was given, changes no word. And a state's words spell that state again, where its trailer is not met at the largest word (no call
+-- leaves it there) and its settings are in their fields' ranges (as those of code always are).
+pub record WordsStand : Type 0 where
+  pub walker-kept : (ws : List ℕ) (w : Walker) → length ws ≡ 7 → walkerOf ws ≡ accepted w → walkerWords w ≡ ws
+  pub writer-kept : (ws : List ℕ) (w : Writer) → length ws ≡ 9 → writerOf ws ≡ accepted w → writerWords w ≡ ws
+  pub walker-back : (w : Walker) → trailerOf (trailerWord (w .trailer)) ≡ w .trailer → walkerOf (walkerWords w) ≡ accepted w
+  pub writer-back : (w : Writer) → settingsLegal (writerWords w) ≡ true → writerOf (writerWords w) ≡ accepted w

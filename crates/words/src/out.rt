@@ -9,9 +9,6 @@ ghost use lib.ListN.{length};
 ghost use Rattle.error.specs.Refusal.{said};
 ghost use Rattle.words.specs.Out.{Says, checked, durationWord, preludeWords, packetOut};
 
-// The number of a call whose state's words are not all in their fields' ranges.
-pub const ILLEGAL_STATE: u32 = 1;
-
 // The answer of a call that only checks: its number, and its place in `out`.
 pub fn result_out(result: AmvResult, out: &mut [u64; 1]) -> u32
     ensures { λ r. ⌜ Says 1 (checked (said result)) r (now (out .exit)) ⌝ }

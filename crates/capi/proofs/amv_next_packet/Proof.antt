@@ -1,7 +1,8 @@
-use mathlib.Core.Path.{refl, _∙_}
-use Rattle.words.specs.State.{saidWalker}
+use mathlib.Core.Path.{refl, ap, _∙_}
+use Rattle.words.specs.State.{saidWalker, walkerWords}
 use Rattle.words.proofs.Laws.{says-accepted, says-refused, packet-placed}
-use Rattle.capi.proofs.Laws.{known, illegal-says, illegal-keeps, next-says, next-walker}
+use Rattle.capi.specs.Calls.{nextWalker}
+use Rattle.capi.proofs.Laws.{known, walks-illegal, walks, read-gave}
 use borrow.Author.Needs.{needs}
 use Rattle.capi.proofs.amv_next_packet.Statement.{statement}
 use Rattle.capi.proofs.amv_next_packet.Tie as tie
@@ -29,8 +30,7 @@ enum-told c = search needs
 -- src/lib.rt:138:9
 returns : tie.Need-returns
 returns c =
-    let e = known saidWalker (c .before .before .before .walker-of .ensures) (c .before .enum-told .given .1) in
-    (illegal-says e 7 _, illegal-keeps e _ _)
+    walks-illegal 7 _ _ _ (known saidWalker (c .before .before .before .walker-of .ensures) (c .before .enum-told .given .1))
 
 -- src/lib.rt:140:9
 next-packet-requires : tie.Need-next-packet-requires
@@ -69,32 +69,35 @@ returns-2 : tie.Need-returns-2
 returns-2 c =
     let a = c .before .before .before .before .before .before .before .before .before .before .before .before .before .args in
     let s = c .before .before .before .before .before .before .before .before in
-    let n = c .before .before .before .before .before .before .next-packet in
-    let legal = known saidWalker (s .before .before .walker-of .ensures) (s .state .given .1) in
-    (says-accepted 7 (next-says (a .file .now) (a .walker .now) (n .result) legal (n .ensures .0) (c .before .before .answer .given .1))
-    (c .packet-out .ensures ∙ packet-placed (a .file .now) (s .state .given .0 .0) (c .before .before .answer .given .0 .0) (c .before .before .answer .given .1) (n .ensures .1)),
-    next-walker (a .file .now) (a .walker .now) (n .result) legal (n .ensures .0) (c .before .before .before .before .walker-words .ensures))
+    let w = s .state .given .0 .0 in
+    let r = c .before .before .before .before .before .before .next-packet in
+    walks 7 _ (nextWalker (a .file .now)) _ (known saidWalker (s .before .before .walker-of .ensures) (s .state .given .1))
+    (says-accepted 7 (read-gave (a .file .now) w (r .ensures .0) (c .before .before .answer .given .1))
+    (c .packet-out .ensures ∙ packet-placed (a .file .now) w _ (c .before .before .answer .given .1) (r .ensures .1)))
+    (c .before .before .before .before .walker-words .ensures ∙ ap (λ q. walkerWords (q .walker)) (r .ensures .0))
 
 -- src/lib.rt:131:1
 returns-3 : tie.Need-returns-3
 returns-3 c =
     let a = c .before .before .before .before .before .before .before .before .before .before .before .before .args in
     let s = c .before .before .before .before .before .before .before in
-    let n = c .before .before .before .before .before .next-packet in
-    let legal = known saidWalker (s .before .before .walker-of .ensures) (s .state .given .1) in
-    (says-accepted 7 (next-says (a .file .now) (a .walker .now) (n .result) legal (n .ensures .0) (c .before .enum-told2 .given .1)) refl,
-    next-walker (a .file .now) (a .walker .now) (n .result) legal (n .ensures .0) (c .before .before .before .walker-words .ensures))
+    let w = s .state .given .0 .0 in
+    let r = c .before .before .before .before .before .next-packet in
+    walks 7 _ (nextWalker (a .file .now)) _ (known saidWalker (s .before .before .walker-of .ensures) (s .state .given .1))
+    (says-accepted 7 (read-gave (a .file .now) w (r .ensures .0) (c .before .enum-told2 .given .1)) refl)
+    (c .before .before .before .walker-words .ensures ∙ ap (λ q. walkerWords (q .walker)) (r .ensures .0))
 
 -- src/lib.rt:131:1
 returns-4 : tie.Need-returns-4
 returns-4 c =
     let a = c .before .before .before .before .before .before .before .before .before .before .before .before .before .before .before .args in
     let s = c .before .before .before .before .before .before .before .before .before .before in
-    let n = c .before .before .before .before .before .before .before .before .next-packet in
-    let legal = known saidWalker (s .before .before .walker-of .ensures) (s .state .given .1) in
-    (says-refused 7 (next-says (a .file .now) (a .walker .now) (n .result) legal (n .ensures .0) (c .before .before .before .before .answer2 .given .1))
-    (c .number .ensures) (c .before .before .place .ensures),
-    next-walker (a .file .now) (a .walker .now) (n .result) legal (n .ensures .0) (c .before .before .before .before .before .before .walker-words .ensures))
+    let w = s .state .given .0 .0 in
+    let r = c .before .before .before .before .before .before .before .before .next-packet in
+    walks 7 _ (nextWalker (a .file .now)) _ (known saidWalker (s .before .before .walker-of .ensures) (s .state .given .1))
+    (says-refused 7 (read-gave (a .file .now) w (r .ensures .0) (c .before .before .before .before .answer2 .given .1)) (c .number .ensures)
+    (c .before .before .place .ensures))
+    (c .before .before .before .before .before .before .walker-words .ensures ∙ ap (λ q. walkerWords (q .walker)) (r .ensures .0))
 
 pub amv-next-packet-spec : {M : Type 1} → statement M
 amv-next-packet-spec =

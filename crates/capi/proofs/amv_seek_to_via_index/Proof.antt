@@ -1,10 +1,9 @@
 use mathlib.Core.Path.{refl, ap, _∙_}
-use mir.Syntax.{w64}
-use mir.ValLaws.{toZ-ofZ}
-use Rattle.seek.specs.Seek.{seekOf}
-use Rattle.words.specs.State.{saidWalker}
+use Rattle.seek.specs.Seek.{saidSeek}
+use Rattle.words.specs.State.{saidWalker, walkerWords}
 use Rattle.words.proofs.Laws.{says-accepted, says-refused}
-use Rattle.capi.proofs.Laws.{known, illegal-says, illegal-keeps, seek-says, seek-walker}
+use Rattle.capi.specs.Calls.{single, seekAnswer, seekWalker}
+use Rattle.capi.proofs.Laws.{known, gave, walks-illegal, walks, as-requested}
 use borrow.Author.Needs.{needs}
 use Rattle.capi.proofs.amv_seek_to_via_index.Statement.{statement}
 use Rattle.capi.proofs.amv_seek_to_via_index.Tie as tie
@@ -31,8 +30,7 @@ enum-told c = search needs
 -- src/lib.rt:173:9
 returns : tie.Need-returns
 returns c =
-    let e = known saidWalker (c .before .before .before .walker-of .ensures) (c .before .enum-told .given .1) in
-    (illegal-says e 2 _, illegal-keeps e _ _)
+    walks-illegal 2 _ _ _ (known saidWalker (c .before .before .before .walker-of .ensures) (c .before .enum-told .given .1))
 
 -- src/lib.rt:175:9
 seek-to-via-index-requires : tie.Need-seek-to-via-index-requires
@@ -64,11 +62,11 @@ returns-2 c =
     let b = c .before .before .before .before .before .before .before .before .before .before .before .before .before in
     let a = b .args in
     let s = c .before .before .before .before .before .before .before .before in
-    let n = c .before .before .before .before .before .before .seek-to-via-index in
-    let legal = known saidWalker (s .before .before .walker-of .ensures) (s .state .given .1) in
-    let e = n .ensures ∙ ap (seekOf (a .table .now) (s .state .given .0 .0) (a .stream)) (toZ-ofZ w64 (a .request) (b .fits .request)) in
-    (says-accepted 2 (seek-says (a .table .now) (a .walker .now) (a .stream) (a .request) (n .result) legal e (c .before .before .result .given .1)) refl,
-    seek-walker (a .table .now) (a .walker .now) (a .stream) (a .request) (n .result) legal e (c .before .before .before .before .walker-words .ensures))
+    let r = c .before .before .before .before .before .before .seek-to-via-index in
+    let e = as-requested (a .table .now) (s .state .given .0 .0) (a .stream) (a .request) (b .fits .request) (r .ensures) in
+    walks 2 (seekAnswer (a .table .now) (a .stream) (a .request)) (seekWalker (a .table .now) (a .stream) (a .request)) _ (known saidWalker (s .before .before .walker-of .ensures) (s .state .given .1))
+    (says-accepted 2 (gave saidSeek single (ap (λ q. q .answer) e) (c .before .before .result .given .1)) refl)
+    (c .before .before .before .before .walker-words .ensures ∙ ap (λ q. walkerWords (q .walker)) e)
 
 -- src/lib.rt:160:1
 returns-3 : tie.Need-returns-3
@@ -76,12 +74,12 @@ returns-3 c =
     let b = c .before .before .before .before .before .before .before .before .before .before .before .before .before .before .before in
     let a = b .args in
     let s = c .before .before .before .before .before .before .before .before .before .before in
-    let n = c .before .before .before .before .before .before .before .before .seek-to-via-index in
-    let legal = known saidWalker (s .before .before .walker-of .ensures) (s .state .given .1) in
-    let e = n .ensures ∙ ap (seekOf (a .table .now) (s .state .given .0 .0) (a .stream)) (toZ-ofZ w64 (a .request) (b .fits .request)) in
-    (says-refused 2 (seek-says (a .table .now) (a .walker .now) (a .stream) (a .request) (n .result) legal e (c .before .before .before .before .result2 .given .1))
-    (c .number .ensures) (c .before .before .place .ensures),
-    seek-walker (a .table .now) (a .walker .now) (a .stream) (a .request) (n .result) legal e (c .before .before .before .before .before .before .walker-words .ensures))
+    let r = c .before .before .before .before .before .before .before .before .seek-to-via-index in
+    let e = as-requested (a .table .now) (s .state .given .0 .0) (a .stream) (a .request) (b .fits .request) (r .ensures) in
+    walks 2 (seekAnswer (a .table .now) (a .stream) (a .request)) (seekWalker (a .table .now) (a .stream) (a .request)) _ (known saidWalker (s .before .before .walker-of .ensures) (s .state .given .1))
+    (says-refused 2 (gave saidSeek single (ap (λ q. q .answer) e) (c .before .before .before .before .result2 .given .1)) (c .number .ensures)
+    (c .before .before .place .ensures))
+    (c .before .before .before .before .before .before .walker-words .ensures ∙ ap (λ q. walkerWords (q .walker)) e)
 
 pub amv-seek-to-via-index-spec : {M : Type 1} → statement M
 amv-seek-to-via-index-spec =

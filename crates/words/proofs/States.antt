@@ -1,4 +1,4 @@
--- Words taken for a state and written back are the same. Assumes nothing.
+-- The words stand for the state. Assumes nothing.
 use mathlib.Core.Path.{_≡_, refl, sym, ap, _∙_}
 use Prim.Native.Nat.{ℕ, zero, suc, _+_, _≤_}
 use mathlib.Core.Bool.{Bool, true, false, _&&_}
@@ -9,7 +9,7 @@ use lib.Dec.{leb, eqb}
 use lib.ListN.{length, drop}
 use lib.Seq.{drop-cons, drop-length}
 use Rattle.error.specs.Answer.{Answer, accepted}
-use Rattle.words.specs.State.{word, markOf, markWord, notMet, trailerOf, trailerWord, askState, walkerLegal, walkerOf, walkerWords, settingsLegal, writerLegal, writerOf, writerWords, WordsKept}
+use Rattle.words.specs.State.{word, markOf, markWord, notMet, trailerOf, trailerWord, askState, walkerLegal, walkerOf, walkerWords, settingsLegal, writerLegal, writerOf, writerWords, WordsStand}
 
 -- ---- a list by its elements
 
@@ -43,6 +43,14 @@ trailer-kept n = go (eqb n notMet) refl
     go true e = rw e (sym (eqb-true n notMet e))
     go false e = rw e
 
+mark-back : (mark : Bool) → markOf (markWord mark) ≡ mark
+mark-back true = refl
+mark-back false = refl
+
+mark-legal : (mark : Bool) → leb (markWord mark) 1 ≡ true
+mark-legal true = refl
+mark-legal false = refl
+
 both : (a b : Bool) → (a && b) ≡ true → (a ≡ true) × (b ≡ true)
 both true true e = (refl, refl)
 both true false e = (refl, e)
@@ -55,20 +63,36 @@ decoded : {S : Type 0} {s w : S} (legal : Bool) → askState legal s ≡ accepte
 decoded true e = (refl, cc)
 decoded false e = let z : _≡_ {A = ℕ} 0 1 = cc in absurd (omega arith)
 
-pub words-kept : WordsKept
+pub words-stand : WordsStand
 unfolding walkerLegal writerLegal wordsFrom
-words-kept =
+words-stand =
     record {
-      walker =
+      walker-kept =
           λ ws w h e.
           let d = decoded (walkerLegal ws) e in
           let m = both (leb (word ws 4) 1) (leb (word ws 5) 1) (d .0) in
           ap walkerWords (d .1)
           ∙ rw (mark-kept (word ws 4) (m .0), mark-kept (word ws 5) (m .1), trailer-kept (word ws 6)) (spelled ws 0 7 (omega arith));
-      writer =
+      writer-kept =
           λ ws w h e.
           let d = decoded (writerLegal ws) e in
           let m = both (settingsLegal ws && leb (word ws 5) 1) (leb (word ws 6) 1) (d .0) in
           let b = both (settingsLegal ws) (leb (word ws 5) 1) (m .0) in
           ap writerWords (d .1) ∙ rw (mark-kept (word ws 5) (b .1), mark-kept (word ws 6) (m .1)) (spelled ws 0 9 (omega arith));
+      walker-back =
+          λ w t.
+          rw (mark-legal (w .end), mark-legal (w .cut))
+          (λ i. accepted (record { position = w .position; end = mark-back (w .end) i; cut = mark-back (w .cut) i; trailer = t i }));
+      writer-back =
+          λ w l.
+          rw (l, mark-legal (w .begun), mark-legal (w .ended))
+          (λ i.
+          accepted
+          (record {
+            settings = w .settings;
+            begun = mark-back (w .begun) i;
+            ended = mark-back (w .ended) i;
+            written = w .written;
+            frames = w .frames;
+          }));
     }
