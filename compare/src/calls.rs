@@ -7,7 +7,8 @@ use crate::tally::{Tally, hex};
 use crate::words::{self, Said, WalkerWords, Write, WriterWords, accepted, refused};
 use crate::{library, tally};
 
-/// Whether the original agrees with what is expected of it. The rule that was needed is entered.
+/// Whether the original agrees with what is expected of it. The rule that was needed is entered. Where the original cannot be
+/// asked there is no answer on either side.
 fn original_agrees<T: PartialEq>(
     tally: &mut Tally,
     expected: &Expected<T>,
@@ -16,10 +17,7 @@ fn original_agrees<T: PartialEq>(
     if let Some(rule) = expected.rule {
         tally.met(rule);
     }
-    match (&expected.answer, told) {
-        (Some(answer), Some(told)) => answer == told,
-        _ => true,
-    }
+    expected.answer == *told
 }
 
 pub fn from_frame_count(tally: &mut Tally, frames: u64, fps: u32) {
@@ -122,13 +120,13 @@ impl Guarded {
     }
 }
 
-/// The index into a table of that length, whose bytes are filled with a pattern first. Gives the records.
+/// The index into a table of that length, whose bytes are filled with a pattern first.
 pub fn build_chunk_index(
     tally: &mut Tally,
     original: &mut original::File,
     file: &[u8],
     table_len: usize,
-) -> Option<Vec<u8>> {
+) {
     let given = vec![0xc3; table_len];
     let mut table = given.clone();
     let plain = words::build_chunk_index(file, &mut table);
@@ -144,14 +142,6 @@ pub fn build_chunk_index(
             hex(lent.lent())
         )
     });
-    (plain.number == 0).then(|| {
-        table.truncate(plan_len(plain));
-        table
-    })
-}
-
-fn plan_len(said: Said<2>) -> usize {
-    said.out[1] as usize * plain::RECORD
 }
 
 /// The original has the records of the walk or its refusal; a table that is too short is no concern of it.
@@ -178,7 +168,7 @@ pub fn seek_to_via_index(
     walker: &mut WalkerWords,
     stream: u32,
     request: i64,
-) -> Said<2> {
+) {
     let given = *walker;
     let plain = words::seek_to_via_index(table, walker, stream, request);
     let mut library_walker = given;
@@ -204,7 +194,6 @@ pub fn seek_to_via_index(
             hex(table)
         )
     });
-    plain
 }
 
 /// The public seek of the original on the same records.

@@ -66,7 +66,7 @@ impl Tally {
     }
 }
 
-/// Bytes in hexadecimal, the prelude left out where it is long.
+/// How many bytes, and what they are.
 pub fn hex(bytes: &[u8]) -> String {
     let text: String = bytes.iter().map(|byte| format!("{byte:02x}")).collect();
     format!("{} bytes {text}", bytes.len())
