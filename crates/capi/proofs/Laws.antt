@@ -2,6 +2,7 @@
 use mathlib.Core.Path.{_≡_, refl, sym, ap, subst, _∙_}
 use Prim.Native.Nat.{ℕ, _-_}
 use mathlib.Core.List.{List, [], _∷_}
+use native.Mathlib.Omega.{arith}
 use lib.IntN.{ℤ}
 use lib.ListN.{replicate}
 use mir.Syntax.{w64}
@@ -43,7 +44,7 @@ module _ {S : Type 0} {decoded : Answer S} {s : S} (e : decoded ≡ accepted s) 
 -- or they spell none: 1 at 0, and nothing changes
 module _ {S : Type 0} {decoded : Answer S} (e : decoded ≡ refused (numbered 1 0)) where
   illegal-says : (n : ℕ) (f : S → Answer (List ℕ)) → Says n (andThen decoded f) 1 (0 ∷ replicate (n - 1) 0)
-  illegal-says n f = says-refused n (ap (λ d. andThen d f) e) refl refl
+  illegal-says n f = says-refused n (ap (λ d. andThen d f) e) refl refl (λ z. omega arith)
 
   illegal-leaves : (before : List ℕ) (after : S → List ℕ) → before ≡ unlessRefused before decoded after
   illegal-leaves before after = ap (λ d. unlessRefused before d after) (sym e)
