@@ -1,6 +1,7 @@
 -- From what the called function ensures to what the exported one answers and leaves. Assumes nothing.
 use mathlib.Core.Path.{_≡_, refl, sym, ap, subst, _∙_}
 use Prim.Native.Nat.{ℕ, _-_}
+use mathlib.Core.Bool.{Bool, true, false, cond}
 use mathlib.Core.List.{List, [], _∷_}
 use native.Mathlib.Omega.{arith}
 use lib.IntN.{ℤ}
@@ -22,6 +23,11 @@ use Rattle.words.specs.Out.{Says, given, checked, unlessRefused, readWords}
 use Rattle.words.specs.State.{walkerOf, walkerWords, writerOf, writerWords}
 use Rattle.words.proofs.Laws.{says-refused}
 use Rattle.capi.specs.Calls.{Walks, nextAnswer, Writes}
+
+-- what holds of both choices
+pub either : {A : Type 0} (P : A → Type 0) (b : Bool) (x y : A) → P x → P y → P (cond b x y)
+either P true x y p q = p
+either P false x y p q = q
 
 -- ---- a result that is known
 
@@ -53,7 +59,7 @@ module _ {S : Type 0} {decoded : Answer S} (e : decoded ≡ refused (numbered 1 
 
 module _ (n : ℕ) (answer : Walker → Answer (List ℕ)) (next : Walker → Walker) (ws : List ℕ) where
   pub walks-illegal : walkerOf ws ≡ refused (numbered 1 0) → Walks n answer next ws 1 (0 ∷ replicate (n - 1) 0) ws
-  walks-illegal e = record { says = illegal-says e n answer; walker = illegal-leaves e ws (λ w. walkerWords (next w)) }
+  walks-illegal e = record { says = illegal-says e n answer; walker = illegal-leaves e ws _ }
 
   pub walks : {w : Walker} {number : ℕ} {out after : List ℕ} → walkerOf ws ≡ accepted w → Says n (answer w) number out
       → after ≡ walkerWords (next w) → Walks n answer next ws number out after

@@ -1,14 +1,14 @@
 -- Calls through words are 01's calls. Assumes nothing.
 use mathlib.Core.Path.{_≡_, refl, sym, ap, subst, _∙_}
-use Prim.Native.Nat.{ℕ, _+_, _≤_}
+use Prim.Native.Nat.{ℕ, _+_}
 use mathlib.Core.Bool.{Bool, true, false, cond}
 use mathlib.Core.List.{List, [], _∷_}
 use mathlib.Core.Option.{Option, none, some}
 use native.Mathlib.Omega.{arith}
 use borrow.Author.Tests.{ne-eqb}
-use lib.Dec.{leb, eqb}
+use lib.Dec.{leb}
 use lib.IntN.{ℤ}
-use lib.ListN.{length, take}
+use lib.ListN.{length}
 use Rattle.error.specs.Answer.{Answer, accepted, refused, andThen}
 use Rattle.fields.specs.File.{withinLimit}
 use Rattle.demuxer.specs.Position.{inRange}
@@ -34,24 +34,21 @@ use Rattle.words.specs.State.{word, notMet, trailerOf, trailerWord, walkerOf, w
 use Rattle.words.proofs.States.{words-stand}
 use Rattle.capi.specs.Calls.{walkerAfter, nextWalker, seekWalker, writerAfter, bufferAfter}
 use Rattle.capi.specs.Lists.{walkerAfterAll, step, acceptedThrough, fileThrough, ThroughWords}
+use Rattle.capi.proofs.Laws.{either}
 
 -- ---- a walker that its words spell
 
 abbrev Spelt : Trailer → Type 0
 Spelt t = trailerOf (trailerWord t) ≡ t
 
-either-way : (b : Bool) (x y : Reading) {t : Trailer} → x .walker .trailer ≡ t → y .walker .trailer ≡ t → cond b x y .walker .trailer ≡ t
-either-way true x y p q = p
-either-way false x y p q = q
-
 module _ (file : List ℕ) (w : Walker) (s : Spelt (w .trailer)) where
-  frame-stays : (size : ℕ) → readFrame file w size .walker .trailer ≡ w .trailer
+  frame-spelt : (size : ℕ) → Spelt (readFrame file w size .walker .trailer)
   unfolding readFrame
-  frame-stays size = either-way (leb (w .position .cursor + 8 + size) (length file)) _ _ refl refl
+  frame-spelt size = either (λ (q : Reading). Spelt (q .walker .trailer)) (leb (w .position .cursor + 8 + size) (length file)) _ _ s s
 
-  sound-stays : (size : ℕ) → readSound file w size .walker .trailer ≡ w .trailer
+  sound-spelt : (size : ℕ) → Spelt (readSound file w size .walker .trailer)
   unfolding readSound
-  sound-stays size = either-way (leb (w .position .cursor + 8 + size) (length file)) _ _ refl refl
+  sound-spelt size = either (λ (q : Reading). Spelt (q .walker .trailer)) (leb (w .position .cursor + 8 + size) (length file)) _ _ s s
 
   -- a cursor that may be read at is no largest word
   cursor-spelt : inRange (w .position) ≡ true → Spelt (At (w .position .cursor))
@@ -63,8 +60,8 @@ module _ (file : List ℕ) (w : Walker) (s : Spelt (w .trailer)) where
   head-spelt r head.Short = s
   head-spelt r head.Trailer = cursor-spelt r
   head-spelt r head.Unknown = s
-  head-spelt r (head.Video size) = subst (λ (t : Trailer). Spelt t) (sym (frame-stays size)) s
-  head-spelt r (head.Audio size) = subst (λ (t : Trailer). Spelt t) (sym (sound-stays size)) s
+  head-spelt r (head.Video size) = frame-spelt size
+  head-spelt r (head.Audio size) = sound-spelt size
 
   next-spelt : Spelt (nextWalker file w .trailer)
   unfolding readOf readChunk
@@ -145,6 +142,8 @@ file-through w buf (c ∷ cs) h =
 pub through-words : ThroughWords
 through-words =
     record {
+      fresh-walker = refl;
+      fresh-writer = λ s. refl;
       walkers = λ file table calls. walkers-through file table demuxer.fresh calls refl;
       writers = λ s buf calls h. (accepted-through (muxer.fresh s) buf calls h, file-through (muxer.fresh s) buf calls h);
     }

@@ -1,7 +1,6 @@
 -- A refused call leaves every word and byte as it was. Assumes nothing.
 use mathlib.Core.Path.{_≡_, refl, ap, _∙_}
 use Prim.Native.Nat.{ℕ, _+_, _*_}
-use mathlib.Core.Bool.{Bool, true, false, cond}
 use mathlib.Core.List.{List}
 use mathlib.Core.Option.{Option, none, some}
 use native.Mathlib.Omega.{arith}
@@ -13,7 +12,7 @@ use Rattle.error.specs.declared.Refusal.{Refusal}
 use Rattle.fields.specs.File.{withinLimit}
 use Rattle.demuxer.specs.Position.{inRange}
 use Rattle.demuxer.specs.Head.{headAt}
-use Rattle.demuxer.specs.Read.{End, Reading, refuse, readFrame, readSound, readHead, readChunk, readOf}
+use Rattle.demuxer.specs.Read.{Reading, readFrame, readSound, readHead, readChunk, readOf}
 use Rattle.demuxer.specs.declared.head.Head.{Head}
 use Rattle.demuxer.specs.declared.head.Head.the-variants as head
 use Rattle.demuxer.specs.declared.position.Position.{Position}
@@ -22,7 +21,7 @@ use Rattle.chunk_index.specs.Entry.{entryLen, entriesOf}
 use Rattle.chunk_index.specs.Index.{indexOf, builtFrom, buildOf}
 use Rattle.chunk_index.specs.declared.entry.ChunkIndexEntry.{ChunkIndexEntry}
 use Rattle.seek.specs.Seek.{seekQuestions, find, landed, soughtFrom, seekOf}
-use Rattle.muxer.specs.Writer.{Outcome, outcome, headerQuestions, headerCall, packetQuestions, packetCall, trailerQuestions, trailerCall}
+use Rattle.muxer.specs.Writer.{outcome, headerQuestions, headerCall, packetQuestions, packetCall, trailerQuestions, trailerCall}
 use Rattle.muxer.specs.declared.Writer.{Writer}
 use Rattle.recording.specs.Written.{WriteCall, header, packet, trailer, writeStep}
 use Rattle.words.specs.Out.{given, checked, unlessRefused, readWords}
@@ -31,6 +30,7 @@ use Rattle.words.proofs.States.{words-stand}
 use Rattle.capi.specs.Calls.{single, nextAnswer, nextWalker, seekAnswer, seekWalker}
 use Rattle.capi.specs.Lists.{step}
 use Rattle.capi.specs.Refusals.{RefusalsKeep}
+use Rattle.capi.proofs.Laws.{either}
 
 -- no accepted answer is a refusal
 never : {A B : Type 0} {x : A} {r : Refusal} → _≡_ {A = Answer A} (accepted x) (refused r) → B
@@ -50,17 +50,13 @@ module _ (file : List ℕ) (w : Walker) (r : Refusal) where
   abbrev Keeps : Reading → Type 0
   Keeps q = readWords w (q .answer) ≡ refused r → q .walker ≡ w
 
-  either-keeps : (b : Bool) (x y : Reading) → Keeps x → Keeps y → Keeps (cond b x y)
-  either-keeps true x y p q = p
-  either-keeps false x y p q = q
-
   frame-keeps : (size : ℕ) → Keeps (readFrame file w size)
   unfolding readFrame
-  frame-keeps size = either-keeps (leb (w .position .cursor + 8 + size) (length file)) _ _ (λ h. never h) (λ h. never h)
+  frame-keeps size = either Keeps (leb (w .position .cursor + 8 + size) (length file)) _ _ (λ h. never h) (λ h. never h)
 
   sound-keeps : (size : ℕ) → Keeps (readSound file w size)
   unfolding readSound
-  sound-keeps size = either-keeps (leb (w .position .cursor + 8 + size) (length file)) _ _ (λ h. never h) (λ h. never h)
+  sound-keeps size = either Keeps (leb (w .position .cursor + 8 + size) (length file)) _ _ (λ h. never h) (λ h. never h)
 
   head-keeps : (h : Head) → Keeps (readHead file w h)
   head-keeps head.Short h = never h
@@ -72,9 +68,9 @@ module _ (file : List ℕ) (w : Walker) (r : Refusal) where
   read-keeps : Keeps (readOf file w)
   unfolding readOf readChunk
   read-keeps =
-      either-keeps (withinLimit file) _ _
-      (either-keeps (inRange (w .position)) _ _
-      (either-keeps (w .end) _ _ (λ h. never h) (head-keeps (headAt file (w .position .cursor))))
+      either Keeps (withinLimit file) _ _
+      (either Keeps (inRange (w .position)) _ _
+      (either Keeps (w .end) _ _ (λ h. never h) (head-keeps (headAt file (w .position .cursor))))
       (λ h. refl))
       (λ h. refl)
 
@@ -124,7 +120,7 @@ refusals-keep =
       next = λ file ws r l h. walker-keeps ws (nextAnswer file) (nextWalker file) r l (λ w. read-keeps file w r) (walkerOf ws) refl h;
       seek =
           λ table ws stream request r l h.
-            walker-keeps ws (seekAnswer table stream request) (seekWalker table stream request) r l (λ w. seek-keeps table stream request w r)
-            (walkerOf ws) refl h;
+          walker-keeps ws (seekAnswer table stream request) (seekWalker table stream request) r l (λ w. seek-keeps table stream request w r)
+          (walkerOf ws) refl h;
       write = λ buf ws c r l h. writer-keeps buf ws c r l (writerOf ws) refl h;
     }

@@ -1,12 +1,12 @@
 -- What a call says, by its answer; and that words taken for a state and written back are the same.
 use mathlib.Core.Path.{_≡_, refl, sym, ap, subst, _∙_}
 use Prim.Native.Nat.{ℕ, _+_, _-_, _≤_}
-use mathlib.Core.Bool.{Bool, true, false, cond}
-use mathlib.Core.List.{List, [], _∷_}
+use mathlib.Core.Bool.{false}
+use mathlib.Core.List.{List, _∷_}
 use native.Mathlib.Omega.{arith}
 use borrow.Author.Tests.{le-leb, eqb-false}
-use lib.Dec.{leb, eqb}
-use lib.ListN.{length, replicate, take, drop, length-drop}
+use lib.Dec.{eqb}
+use lib.ListN.{length, replicate, drop, length-drop}
 use lib.Seq.{length-take-le}
 use Rattle.error.specs.Answer.{Answer, accepted, refused}
 use Rattle.error.specs.Refusal.{refusalOf}

@@ -1,5 +1,3 @@
-use mathlib.Core.Path.{ap}
-use mathlib.Core.List.{[], _∷_}
 use Rattle.recording.specs.Check.{saidCheck}
 use Rattle.words.proofs.Laws.{says-accepted, says-error}
 use Rattle.capi.specs.Calls.{totalsWords}
@@ -40,7 +38,7 @@ number-requires c κs = search needs
 
 -- src/lib.rt:65:1
 returns : tie.Need-returns
-returns c = let t = c .before .before .before .totals .given .0 in
+returns c =
     says-accepted 6 (gave saidCheck totalsWords (c .before .before .before .before .before .check .ensures) (c .before .before .before .totals .given .1)) (cc)
 
 -- src/lib.rt:65:1
