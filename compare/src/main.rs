@@ -8,6 +8,7 @@
 mod calls;
 mod files;
 mod large;
+mod lent;
 mod library;
 mod lists;
 mod original;
@@ -18,6 +19,7 @@ mod random;
 mod rules;
 mod suites;
 mod tally;
+mod texts;
 mod words;
 
 use std::process::ExitCode;
@@ -31,16 +33,7 @@ fn main() -> ExitCode {
             .map_or(default, |word| word.parse().unwrap())
     };
     let (seed, count) = (number(1), number(10_000_000));
-    // A panic of the original is an answer, and not to be printed; one of our own still ends the run with its message.
-    let usual = std::panic::take_hook();
-    std::panic::set_hook(Box::new(move |info| {
-        let ours = info
-            .location()
-            .is_some_and(|at| at.file().starts_with("src/"));
-        if ours {
-            usual(info);
-        }
-    }));
+    quiet_panics();
     let started = Instant::now();
     let mut tally = tally::Tally::default();
     let mut random = random::Random(seed);
@@ -81,4 +74,15 @@ fn rules_stand(tally: &mut tally::Tally) {
             format!("{rule}: listed {listed}, met {met}")
         });
     }
+}
+
+/// A panic of the original is an answer, and not to be printed; one of our own still ends the run with its message.
+fn quiet_panics() {
+    let usual = std::panic::take_hook();
+    std::panic::set_hook(Box::new(move |info| {
+        let ours = |at: &std::panic::Location| at.file().starts_with("src/");
+        if info.location().is_some_and(ours) {
+            usual(info);
+        }
+    }));
 }
