@@ -25,6 +25,9 @@ mod words;
 use std::process::ExitCode;
 use std::time::Instant;
 
+/// Some random rounds run however small COUNT is: they meet the rules that short inputs do not.
+const LEAST_ROUNDS: u32 = 1000;
+
 fn main() -> ExitCode {
     let mut arguments = std::env::args().skip(1);
     let mut number = |default| {
@@ -46,8 +49,10 @@ fn main() -> ExitCode {
     programs::listing(&mut tally, &mut random);
     programs::ffmpeg(&mut tally);
     large::suite(&mut tally);
-    while tally.total() < count {
+    let mut rounds = 0;
+    while tally.total() < count || rounds < LEAST_ROUNDS {
         suites::round(&mut tally, &mut random);
+        rounds += 1;
     }
     rules_stand(&mut tally);
     tally.print();
