@@ -5,6 +5,7 @@
 //! The short inputs run in full, then random rounds until COUNT comparisons are made. Each difference from the original is one of
 //! the rules, which stand in docs/DIFFERENCES.md, or it fails.
 
+mod c;
 mod calls;
 mod files;
 mod large;
