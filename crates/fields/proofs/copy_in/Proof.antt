@@ -4,11 +4,11 @@ use native.Mathlib.Omega.{arith}
 use borrow.Author.Needs.{needs}
 use lib.ListN.{length}
 use lib.Seq.{paste, paste-zero}
-use Rattle.muxer.proofs.Steps.{copy-more, copy-done}
-use Rattle.muxer.proofs.copy_in.Statement.{statement}
-use Rattle.muxer.proofs.copy_in.Tie as tie
-use Rattle.muxer.proofs.copy_in.Reads as reads
-use Rattle.muxer.proofs.copy_in.Lts as lts
+use Rattle.fields.proofs.Laws.{copy-more, copy-done}
+use Rattle.fields.proofs.copy_in.Statement.{statement}
+use Rattle.fields.proofs.copy_in.Tie as tie
+use Rattle.fields.proofs.copy_in.Reads as reads
+use Rattle.fields.proofs.copy_in.Lts as lts
 
 abbrev Inv-loop : tie.InvT-loop
 Inv-loop buf₀ off src i₀ buf i = (i ≤ length src) × (length buf ≡ length buf₀) × (buf ≡ paste buf₀ off src i)
