@@ -1,0 +1,91 @@
+-- From what the called function ensures to what the exported one answers and leaves. Assumes nothing.
+use mathlib.Core.Path.{_≡_, refl, sym, ap, subst, _∙_}
+use Prim.Native.Nat.{ℕ, _-_}
+use mathlib.Core.List.{List, [], _∷_}
+use lib.IntN.{ℤ}
+use lib.ListN.{replicate}
+use mir.Syntax.{w64}
+use mir.Val.{SFits, toZ, ofZ}
+use mir.ValLaws.{toZ-ofZ}
+use Rattle.error.specs.Answer.{Answer, accepted, refused, numbered, andThen}
+use Rattle.error.specs.Refusal.{said}
+use Rattle.demuxer.specs.Read.{saidNext, saidRead, readOf}
+use Rattle.demuxer.specs.declared.walker.Walker.{Walker}
+use Rattle.demuxer.specs.declared.walker.Read.{Read}
+use Rattle.demuxer.specs.declared.walker.NextPacket.{NextPacket}
+use Rattle.seek.specs.Seek.{Seeking, seekOf}
+use Rattle.muxer.specs.Writer.{Outcome, Meets}
+use Rattle.muxer.specs.declared.Writer.{Writer}
+use Rattle.muxer.specs.declared.Wrote.{Wrote}
+use Rattle.words.specs.Out.{Says, given, checked, unlessRefused, readWords}
+use Rattle.words.specs.State.{walkerOf, walkerWords, writerOf, writerWords}
+use Rattle.words.proofs.Laws.{says-refused}
+use Rattle.capi.specs.Calls.{Walks, nextAnswer, Writes}
+
+-- ---- a result that is known
+
+pub known : {A R : Type 0} {answer : Answer A} {r v : R} (saidOf : R → Answer A) → saidOf r ≡ answer → r ≡ v → answer ≡ saidOf v
+known saidOf e t = sym e ∙ ap saidOf t
+
+pub gave : {A R : Type 0} {answer : Answer A} {r v : R} (saidOf : R → Answer A) (f : A → List ℕ) → saidOf r ≡ answer → r ≡ v
+    → given f answer ≡ given f (saidOf v)
+gave saidOf f e t = ap (λ a. given f a) (known saidOf e t)
+
+-- ---- a state's words: the call goes on with the state that they spell
+
+module _ {S : Type 0} {decoded : Answer S} {s : S} (e : decoded ≡ accepted s) where
+  legal-says : (n : ℕ) (f : S → Answer (List ℕ)) {number : ℕ} {out : List ℕ} → Says n (f s) number out → Says n (andThen decoded f) number out
+  legal-says n f {number} {out} said = subst (λ (a : Answer (List ℕ)). Says n a number out) (ap (λ d. andThen d f) (sym e)) said
+
+  legal-leaves : (before : List ℕ) (after : S → List ℕ) → after s ≡ unlessRefused before decoded after
+  legal-leaves before after = ap (λ d. unlessRefused before d after) (sym e)
+
+-- or they spell none: 1 at 0, and nothing changes
+module _ {S : Type 0} {decoded : Answer S} (e : decoded ≡ refused (numbered 1 0)) where
+  illegal-says : (n : ℕ) (f : S → Answer (List ℕ)) → Says n (andThen decoded f) 1 (0 ∷ replicate (n - 1) 0)
+  illegal-says n f = says-refused n (ap (λ d. andThen d f) e) refl refl
+
+  illegal-leaves : (before : List ℕ) (after : S → List ℕ) → before ≡ unlessRefused before decoded after
+  illegal-leaves before after = ap (λ d. unlessRefused before d after) (sym e)
+
+-- ---- a read and a seek
+
+module _ (n : ℕ) (answer : Walker → Answer (List ℕ)) (next : Walker → Walker) (ws : List ℕ) where
+  pub walks-illegal : walkerOf ws ≡ refused (numbered 1 0) → Walks n answer next ws 1 (0 ∷ replicate (n - 1) 0) ws
+  walks-illegal e = record { says = illegal-says e n answer; walker = illegal-leaves e ws (λ w. walkerWords (next w)) }
+
+  pub walks : {w : Walker} {number : ℕ} {out after : List ℕ} → walkerOf ws ≡ accepted w → Says n (answer w) number out
+      → after ≡ walkerWords (next w) → Walks n answer next ws number out after
+  walks e said o = record { says = legal-says e n answer said; walker = o ∙ legal-leaves e ws (λ w. walkerWords (next w)) }
+
+-- the words of a read's answer that is known
+pub read-gave : (file : List ℕ) (w : Walker) {r : Read} {v : NextPacket} → saidRead file r ≡ readOf file w → r .answer ≡ v
+    → nextAnswer file w ≡ readWords w (saidNext file v)
+read-gave file w e t = ap (λ q. readWords w (q .answer)) (sym e) ∙ ap (λ v. readWords w (saidNext file v)) t
+
+-- a signed request goes to the seek as 64 bits, which give the same number
+pub as-requested : (table : List ℕ) (w : Walker) (stream : ℕ) (request : ℤ) {q : Seeking} → SFits w64 request
+    → q ≡ seekOf table w stream (toZ w64 (ofZ w64 request)) → q ≡ seekOf table w stream request
+as-requested table w stream request f e = e ∙ ap (seekOf table w stream) (toZ-ofZ w64 request f)
+
+-- ---- a writing call
+
+module _ (call : Writer → Outcome) (ws buf : List ℕ) where
+  pub writes-illegal : writerOf ws ≡ refused (numbered 1 0) → Writes call ws buf 1 (0 ∷ []) ws buf
+  writes-illegal e =
+      record {
+        says = illegal-says e 1 (λ w. checked (call w .answer));
+        writer = illegal-leaves e ws (λ w. writerWords (call w .writer));
+        buffer = illegal-leaves e buf (λ w. call w .buffer);
+      }
+
+  pub writes : {w : Writer} {r : Wrote} {number : ℕ} {out words after : List ℕ} → writerOf ws ≡ accepted w → Meets (call w) r after
+      → words ≡ writerWords (r .writer) → Says 1 (checked (said (r .result))) number out → Writes call ws buf number out words after
+  writes {number = number} {out = out} e m o s =
+      record {
+        says =
+            legal-says e 1 (λ w. checked (call w .answer))
+            (subst (λ (a : Answer (List ℕ)). Says 1 a number out) (ap checked (m .answer)) s);
+        writer = o ∙ ap writerWords (m .writer) ∙ legal-leaves e ws (λ w. writerWords (call w .writer));
+        buffer = m .buffer ∙ legal-leaves e buf (λ w. call w .buffer);
+      }

@@ -1,0 +1,25 @@
+use mathlib.Core.Path.{ap, _∙_}
+use Rattle.duration.specs.Duration.{packedOf}
+use borrow.Author.Needs.{needs}
+use Rattle.capi.proofs.amv_from_frame_count.Statement.{statement}
+use Rattle.capi.proofs.amv_from_frame_count.Tie as tie
+use Rattle.capi.proofs.amv_from_frame_count.Reads as reads
+use Rattle.capi.proofs.amv_from_frame_count.Lts as lts
+use Rattle.duration.proofs.AmvDuration.from_frame_count.Reads as from-frame-count-reads
+use Rattle.duration.proofs.AmvDuration.to_packed.Reads as to-packed-reads
+
+-- src/lib.rt:39:5
+from-frame-count-requires : tie.Need-from-frame-count-requires
+from-frame-count-requires c κs = search needs
+
+-- src/lib.rt:39:5
+to-packed-requires : tie.Need-to-packed-requires
+to-packed-requires c κs = search needs
+
+-- src/lib.rt:35:1
+returns : tie.Need-returns
+returns c = c .to-packed .ensures ∙ ap packedOf (c .before .from-frame-count .ensures)
+
+pub amv-from-frame-count-spec : {M : Type 1} → statement M
+amv-from-frame-count-spec =
+    tie.close (tie.spec from-frame-count-requires to-packed-requires returns)

@@ -1,0 +1,23 @@
+use borrow.Author.Needs.{needs}
+use Rattle.capi.proofs.amv_validate_movi_interleave.Statement.{statement}
+use Rattle.capi.proofs.amv_validate_movi_interleave.Tie as tie
+use Rattle.capi.proofs.amv_validate_movi_interleave.Reads as reads
+use Rattle.capi.proofs.amv_validate_movi_interleave.Lts as lts
+use Rattle.chunk.proofs.interleave.validate_movi_interleave.Reads as validate-movi-interleave-reads
+use Rattle.words.proofs.out.result_out.Reads as result-out-reads
+
+-- src/lib.rt:46:16
+validate-movi-interleave-requires : tie.Need-validate-movi-interleave-requires
+validate-movi-interleave-requires c κs = search needs
+
+-- src/lib.rt:46:5
+result-out-requires : tie.Need-result-out-requires
+result-out-requires c κs = search needs
+
+-- src/lib.rt:42:1
+returns : tie.Need-returns
+returns c = rw (c .before .before .validate-movi-interleave .ensures) at (c .result-out .ensures)
+
+pub amv-validate-movi-interleave-spec : {M : Type 1} → statement M
+amv-validate-movi-interleave-spec =
+    tie.close (tie.spec validate-movi-interleave-requires result-out-requires returns)

@@ -1,0 +1,70 @@
+-- What each exported function answers and leaves, over the definitions of 01's calls. Assumes nothing.
+use mathlib.Core.Path.{_≡_}
+use Prim.Native.Nat.{ℕ}
+use mathlib.Core.Bool.{Bool, cond}
+use mathlib.Core.List.{List, [], _∷_}
+use lib.IntN.{ℤ}
+use Rattle.error.specs.Answer.{Answer, andThen}
+use Rattle.prelude.specs.Prelude.{parseOf, strictOf}
+use Rattle.demuxer.specs.Read.{readOf}
+use Rattle.demuxer.specs.declared.walker.Walker.{Walker}
+use Rattle.chunk_index.specs.Index.{buildOf, summaryOf}
+use Rattle.chunk_index.specs.declared.index.ChunkCounts.{ChunkCounts}
+use Rattle.seek.specs.Seek.{seekOf}
+use Rattle.muxer.specs.Writer.{Outcome}
+use Rattle.muxer.specs.declared.Writer.{Writer}
+use Rattle.recording.specs.Check.{checkOf}
+use Rattle.recording.specs.declared.check.Totals.{Totals}
+use Rattle.words.specs.Out.{Says, given, checked, unlessRefused, readWords, preludeWords}
+use Rattle.words.specs.State.{markWord, walkerOf, walkerWords, writerOf, writerWords}
+
+-- one number
+abbrev pub single : ℕ → List ℕ
+single n = n ∷ []
+
+-- frames, blocks
+abbrev pub countsWords : ChunkCounts → List ℕ
+countsWords s = s .frames ∷ s .blocks ∷ []
+
+abbrev pub summaryAnswer : List ℕ → Answer (List ℕ)
+summaryAnswer file = given countsWords (summaryOf file)
+
+-- frames, blocks, samples, trailer, paired
+abbrev pub totalsWords : Totals → List ℕ
+totalsWords t = t .frames ∷ t .blocks ∷ t .samples ∷ t .trailer ∷ markWord (t .paired) ∷ []
+
+abbrev pub checkAnswer : List ℕ → Answer (List ℕ)
+checkAnswer file = given totalsWords (checkOf file)
+
+-- count
+abbrev pub indexAnswer : List ℕ → List ℕ → Answer (List ℕ)
+indexAnswer file table = given single (buildOf file table .answer)
+
+-- the prelude's fields
+abbrev pub parseAnswer : List ℕ → Bool → Answer (List ℕ)
+parseAnswer file strict = given preludeWords (cond strict (strictOf file) (parseOf file))
+
+-- a call over a walker's words, what it answers and the walker after it: what it returns and leaves in `out`, of n words, and in the words
+pub record Walks (n : ℕ) (answer : Walker → Answer (List ℕ)) (next : Walker → Walker) (ws : List ℕ) (returned : ℕ) (out wsAfter : List ℕ) : Type 0 where
+  pub says : Says n (andThen (walkerOf ws) answer) returned out
+  pub walker : wsAfter ≡ unlessRefused ws (walkerOf ws) (λ w. walkerWords (next w))
+
+-- a packet or End
+abbrev pub nextAnswer : List ℕ → Walker → Answer (List ℕ)
+nextAnswer file w = readWords w (readOf file w .answer)
+
+abbrev pub nextWalker : List ℕ → Walker → Walker
+nextWalker file w = readOf file w .walker
+
+-- the stamp
+abbrev pub seekAnswer : List ℕ → ℕ → ℤ → Walker → Answer (List ℕ)
+seekAnswer table stream request w = given single (seekOf table w stream request .answer)
+
+abbrev pub seekWalker : List ℕ → ℕ → ℤ → Walker → Walker
+seekWalker table stream request w = seekOf table w stream request .walker
+
+-- a writing call over a writer's words: what it returns and leaves in `out`, the words and the buffer
+pub record Writes (call : Writer → Outcome) (ws buf : List ℕ) (returned : ℕ) (out wsAfter bufAfter : List ℕ) : Type 0 where
+  pub says : Says 1 (andThen (writerOf ws) (λ w. checked (call w .answer))) returned out
+  pub writer : wsAfter ≡ unlessRefused ws (writerOf ws) (λ w. writerWords (call w .writer))
+  pub buffer : bufAfter ≡ unlessRefused buf (writerOf ws) (λ w. call w .buffer)

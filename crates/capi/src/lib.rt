@@ -1,0 +1,244 @@
+// The C interface. include/amv.h declares it and says what each call gives.
+use chunk_index::index::IndexResult;
+use chunk_index::index::SummaryResult;
+use chunk_index::index::build_chunk_index;
+use chunk_index::index::summary;
+use demuxer::walker::NextPacket;
+use duration::AmvDuration;
+use prelude::prelude::AmvPrelude;
+use prelude::prelude::AmvPreludeResult;
+use recording::check::CheckResult;
+use recording::check::check;
+use seek::SeekResult;
+use seek::seek_to_via_index;
+use words::out::packet_out;
+use words::out::prelude_out;
+use words::out::result_out;
+use words::walker::WalkerState;
+use words::walker::mark_word;
+use words::walker::walker_of;
+use words::walker::walker_words;
+use words::writer::WriterState;
+use words::writer::writer_of;
+use words::writer::writer_words;
+ghost use mathlib.Core.Path.{_≡_};
+ghost use mathlib.Core.Bool.{cond};
+ghost use Rattle.chunk.specs.Interleave.{interleave};
+ghost use Rattle.duration.specs.Duration.{packedOf, runLength};
+ghost use Rattle.prelude.specs.Prelude.{saidPrelude, parseOf, strictOf};
+ghost use Rattle.chunk_index.specs.Index.{buildOf};
+ghost use Rattle.muxer.specs.Writer.{headerCall, packetCall, trailerCall};
+ghost use Rattle.words.specs.Out.{Says, checked};
+ghost use Rattle.capi.specs.Calls.{summaryAnswer, checkAnswer, indexAnswer, parseAnswer, Walks, nextAnswer, nextWalker, seekAnswer, seekWalker, Writes};
+
+// The number of a call whose state's words are not all in their fields' ranges.
+const ILLEGAL_STATE: u32 = 1;
+
+#[no_mangle]
+pub extern "C" fn amv_from_frame_count(frames: u64, fps: u32) -> u32
+    ensures { λ r. ⌜ r ≡ packedOf (runLength frames fps) ⌝ }
+{
+    AmvDuration::from_frame_count(frames, fps).to_packed()
+}
+
+#[no_mangle]
+pub extern "C" fn amv_validate_movi_interleave(tags: &[u32], out: &mut [u64; 1]) -> u32
+    ensures { λ r. ⌜ Says 1 (checked (interleave (now (tags .entry)))) r (now (out .exit)) ⌝ }
+{
+    result_out(chunk::interleave::validate_movi_interleave(tags), out)
+}
+
+#[no_mangle]
+pub extern "C" fn amv_summary(file: &[u8], out: &mut [u64; 3]) -> u32
+    ensures { λ r. ⌜ Says 3 (summaryAnswer (now (file .entry))) r (now (out .exit)) ⌝ }
+{
+    match summary(file) {
+        SummaryResult::Ok(counts) => {
+            *out = [0, counts.frames, counts.blocks];
+            0
+        }
+        SummaryResult::Err(e) => {
+            *out = [e.place(), 0, 0];
+            e.number()
+        }
+    }
+}
+
+#[no_mangle]
+pub extern "C" fn amv_check(file: &[u8], out: &mut [u64; 6]) -> u32
+    ensures { λ r. ⌜ Says 6 (checkAnswer (now (file .entry))) r (now (out .exit)) ⌝ }
+{
+    match check(file) {
+        CheckResult::Ok(totals) => {
+            *out = [
+                0,
+                totals.frames,
+                totals.blocks,
+                totals.samples,
+                totals.trailer,
+                mark_word(totals.paired),
+            ];
+            0
+        }
+        CheckResult::Err(e) => {
+            *out = [e.place(), 0, 0, 0, 0, 0];
+            e.number()
+        }
+    }
+}
+
+#[no_mangle]
+pub extern "C" fn amv_build_chunk_index(file: &[u8], table: &mut [u8], out: &mut [u64; 2]) -> u32
+    ensures { λ r. ⌜ Says 2 (indexAnswer (now (file .entry)) (now (table .entry))) r (now (out .exit)) ⌝ }
+    ensures { λ _. ⌜ now (table .exit) ≡ buildOf (now (file .entry)) (now (table .entry)) .table ⌝ }
+{
+    match build_chunk_index(file, table) {
+        IndexResult::Ok(count) => {
+            *out = [0, count as u64];
+            0
+        }
+        IndexResult::Err(e) => {
+            *out = [e.place(), 0];
+            e.number()
+        }
+    }
+}
+
+fn parsed(file: &[u8], strict: bool) -> AmvPreludeResult
+    ensures { λ r. ⌜ saidPrelude r ≡ cond strict (strictOf (now (file .entry))) (parseOf (now (file .entry))) ⌝ }
+{
+    if strict {
+        AmvPrelude::parse_strict(file)
+    } else {
+        AmvPrelude::parse(file)
+    }
+}
+
+#[no_mangle]
+pub extern "C" fn amv_parse(file: &[u8], strict: bool, out: &mut [u64; 16]) -> u32
+    ensures { λ r. ⌜ Says 16 (parseAnswer (now (file .entry)) strict) r (now (out .exit)) ⌝ }
+{
+    match parsed(file, strict) {
+        AmvPreludeResult::Ok(prelude) => {
+            *out = prelude_out(prelude);
+            0
+        }
+        AmvPreludeResult::Err(e) => {
+            *out = [e.place(), 0, 0, 0, 0, 0, 0, 0, 0, 0, 0, 0, 0, 0, 0, 0];
+            e.number()
+        }
+    }
+}
+
+#[no_mangle]
+pub extern "C" fn amv_next_packet(file: &[u8], walker: &mut [u64; 7], out: &mut [u64; 7]) -> u32
+    ensures { λ r. ⌜ Walks 7 (nextAnswer (now (file .entry))) (nextWalker (now (file .entry))) (now (walker .entry)) r (now (out .exit)) (now (walker .exit)) ⌝ }
+{
+    let WalkerState::Legal(state) = walker_of(*walker) else {
+        *out = [0; 7];
+        return ILLEGAL_STATE;
+    };
+    let read = state.next_packet(file);
+    let next = read.walker;
+    *walker = walker_words(next);
+    let answer = read.answer;
+    match answer {
+        NextPacket::Packet(packet) => {
+            *out = packet_out(packet);
+            0
+        }
+        NextPacket::End => {
+            *out = [0; 7];
+            0
+        }
+        NextPacket::Err(e) => {
+            *out = [e.place(), 0, 0, 0, 0, 0, 0];
+            e.number()
+        }
+    }
+}
+
+#[no_mangle]
+pub extern "C" fn amv_seek_to_via_index(
+    table: &[u8],
+    walker: &mut [u64; 7],
+    stream: u32,
+    request: i64,
+    out: &mut [u64; 2],
+) -> u32
+    ensures { λ r. ⌜ Walks 2 (seekAnswer (now (table .entry)) stream request) (seekWalker (now (table .entry)) stream request) (now (walker .entry)) r (now (out .exit)) (now (walker .exit)) ⌝ }
+{
+    let WalkerState::Legal(state) = walker_of(*walker) else {
+        *out = [0, 0];
+        return ILLEGAL_STATE;
+    };
+    let sought = seek_to_via_index(state, table, stream, request);
+    let next = sought.walker;
+    *walker = walker_words(next);
+    let result = sought.result;
+    match result {
+        SeekResult::Ok(stamp) => {
+            *out = [0, stamp];
+            0
+        }
+        SeekResult::Err(e) => {
+            *out = [e.place(), 0];
+            e.number()
+        }
+    }
+}
+
+#[no_mangle]
+pub extern "C" fn amv_write_header(writer: &mut [u64; 9], buf: &mut [u8], out: &mut [u64; 1]) -> u32
+    ensures { λ r. ⌜ Writes (λ w. headerCall w (now (buf .entry))) (now (writer .entry)) (now (buf .entry)) r (now (out .exit)) (now (writer .exit)) (now (buf .exit)) ⌝ }
+{
+    let WriterState::Legal(state) = writer_of(*writer) else {
+        *out = [0];
+        return ILLEGAL_STATE;
+    };
+    let wrote = state.write_header(buf);
+    let next = wrote.writer;
+    *writer = writer_words(next);
+    let result = wrote.result;
+    result_out(result, out)
+}
+
+#[no_mangle]
+pub extern "C" fn amv_write_packet(
+    writer: &mut [u64; 9],
+    buf: &mut [u8],
+    payload: &[u8],
+    stream: u32,
+    out: &mut [u64; 1],
+) -> u32
+    ensures { λ r. ⌜ Writes (λ w. packetCall w (now (payload .entry)) stream (now (buf .entry))) (now (writer .entry)) (now (buf .entry)) r (now (out .exit)) (now (writer .exit)) (now (buf .exit)) ⌝ }
+{
+    let WriterState::Legal(state) = writer_of(*writer) else {
+        *out = [0];
+        return ILLEGAL_STATE;
+    };
+    let wrote = state.write_packet(buf, payload, stream);
+    let next = wrote.writer;
+    *writer = writer_words(next);
+    let result = wrote.result;
+    result_out(result, out)
+}
+
+#[no_mangle]
+pub extern "C" fn amv_write_trailer(
+    writer: &mut [u64; 9],
+    buf: &mut [u8],
+    out: &mut [u64; 1],
+) -> u32
+    ensures { λ r. ⌜ Writes (λ w. trailerCall w (now (buf .entry))) (now (writer .entry)) (now (buf .entry)) r (now (out .exit)) (now (writer .exit)) (now (buf .exit)) ⌝ }
+{
+    let WriterState::Legal(state) = writer_of(*writer) else {
+        *out = [0];
+        return ILLEGAL_STATE;
+    };
+    let wrote = state.write_trailer(buf);
+    let next = wrote.writer;
+    *writer = writer_words(next);
+    let result = wrote.result;
+    result_out(result, out)
+}

@@ -1,0 +1,40 @@
+use mathlib.Core.Path.{ap}
+use Rattle.error.specs.Refusal.{said}
+use Rattle.words.specs.Out.{checked}
+use Rattle.words.proofs.Laws.{says-refused}
+use borrow.Author.Needs.{needs}
+use Rattle.words.proofs.out.result_out.Statement.{statement}
+use Rattle.words.proofs.out.result_out.Tie as tie
+use Rattle.words.proofs.out.result_out.Reads as reads
+use Rattle.words.proofs.out.result_out.Lts as lts
+use Rattle.error.proofs.AmvError.number.Reads as number-reads
+use Rattle.error.proofs.AmvError.place.Reads as place-reads
+
+-- src/out.rt:21:13
+enum-told : tie.Need-enum-told
+enum-told c = search needs
+
+-- src/out.rt:24:24
+enum-known-result : tie.Need-enum-known-result
+enum-known-result c = search needs
+
+-- src/out.rt:25:21
+place-requires : tie.Need-place-requires
+place-requires c κs = search needs
+
+-- src/out.rt:26:13
+number-requires : tie.Need-number-requires
+number-requires c κs = search needs
+
+-- src/out.rt:16:1
+returns : tie.Need-returns
+returns c = search needs
+
+-- src/out.rt:16:1
+returns-2 : tie.Need-returns-2
+returns-2 c = says-refused 1 (ap (λ r. checked (said r)) (c .before .before .before .before .result .given .1)) (c .number .ensures) (c .before .before .place .ensures)
+
+pub result-out-spec : {M : Type 1} → statement M
+result-out-spec =
+    tie.close
+    (tie.spec enum-told enum-known-result place-requires number-requires returns returns-2)

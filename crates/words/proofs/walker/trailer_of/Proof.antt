@@ -1,0 +1,16 @@
+use borrow.Author.Tests.{eq-eqb, ne-eqb}
+use Rattle.words.proofs.walker.trailer_of.Statement.{statement}
+use Rattle.words.proofs.walker.trailer_of.Tie as tie
+use Rattle.words.proofs.walker.trailer_of.Reads as reads
+use Rattle.words.proofs.walker.trailer_of.Lts as lts
+
+-- src/walker.rt:24:9
+returns : tie.Need-returns
+returns c = rw (eq-eqb _ _ (c .if1 .taken))
+
+-- src/walker.rt:20:1
+returns-2 : tie.Need-returns-2
+returns-2 c = rw (ne-eqb _ _ (c .if1 .left))
+
+pub trailer-of-spec : {M : Type 1} → statement M
+trailer-of-spec = tie.close (tie.spec returns returns-2)

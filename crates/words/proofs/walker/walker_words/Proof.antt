@@ -1,0 +1,27 @@
+use borrow.Author.Needs.{needs}
+use Rattle.words.proofs.walker.walker_words.Statement.{statement}
+use Rattle.words.proofs.walker.walker_words.Tie as tie
+use Rattle.words.proofs.walker.walker_words.Reads as reads
+use Rattle.words.proofs.walker.walker_words.Lts as lts
+use Rattle.words.proofs.walker.mark_word.Reads as mark-word-reads
+use Rattle.words.proofs.walker.trailer_word.Reads as trailer-word-reads
+
+-- src/walker.rt:78:9
+mark-word-requires : tie.Need-mark-word-requires
+mark-word-requires c κs = search needs
+
+-- src/walker.rt:79:9
+mark-word-requires-2 : tie.Need-mark-word-requires-2
+mark-word-requires-2 c κs = search needs
+
+-- src/walker.rt:80:9
+trailer-word-requires : tie.Need-trailer-word-requires
+trailer-word-requires c κs = search needs
+
+-- src/walker.rt:68:1
+returns : tie.Need-returns
+returns c = cc
+
+pub walker-words-spec : {M : Type 1} → statement M
+walker-words-spec =
+    tie.close (tie.spec mark-word-requires mark-word-requires-2 trailer-word-requires returns)

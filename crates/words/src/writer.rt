@@ -1,0 +1,70 @@
+// A writer as nine words: width, height, fps, rate, channels, begun, ended, written, frames.
+use crate::walker::mark_word;
+use muxer::Settings;
+use muxer::Writer;
+ghost use mathlib.Core.Path.{_≡_};
+ghost use Rattle.words.specs.State.{writerOf, saidWriter, writerWords};
+
+// The writer of nine words, if each is in its field's range.
+pub enum WriterState {
+    Legal(Writer),
+    Illegal,
+}
+
+pub fn writer_of(words: [u64; 9]) -> WriterState
+    ensures { λ r. ⌜ saidWriter r ≡ writerOf words ⌝ }
+{
+    if 4294967295 < words[0] {
+        return WriterState::Illegal;
+    }
+    if 4294967295 < words[1] {
+        return WriterState::Illegal;
+    }
+    if 4294967295 < words[2] {
+        return WriterState::Illegal;
+    }
+    if 4294967295 < words[3] {
+        return WriterState::Illegal;
+    }
+    if 65535 < words[4] {
+        return WriterState::Illegal;
+    }
+    if 1 < words[5] {
+        return WriterState::Illegal;
+    }
+    if 1 < words[6] {
+        return WriterState::Illegal;
+    }
+    let settings = Settings {
+        width: words[0] as u32,
+        height: words[1] as u32,
+        fps: words[2] as u32,
+        rate: words[3] as u32,
+        channels: words[4] as u16,
+    };
+    let writer = Writer {
+        settings,
+        begun: words[5] == 1,
+        ended: words[6] == 1,
+        written: words[7],
+        frames: words[8],
+    };
+    WriterState::Legal(writer)
+}
+
+pub fn writer_words(writer: Writer) -> [u64; 9]
+    ensures { λ r. ⌜ r ≡ writerWords writer ⌝ }
+{
+    let settings = writer.settings;
+    [
+        settings.width as u64,
+        settings.height as u64,
+        settings.fps as u64,
+        settings.rate as u64,
+        settings.channels as u64,
+        mark_word(writer.begun),
+        mark_word(writer.ended),
+        writer.written,
+        writer.frames,
+    ]
+}
