@@ -1,7 +1,9 @@
 -- From what the called function ensures to what the exported one answers and leaves. Assumes nothing.
 use mathlib.Core.Path.{_≡_, refl, sym, ap, subst, _∙_}
 use Prim.Native.Nat.{ℕ, _-_}
+use mathlib.Core.Bool.{Bool, true, false, cond}
 use mathlib.Core.List.{List, [], _∷_}
+use native.Mathlib.Omega.{arith}
 use lib.IntN.{ℤ}
 use lib.ListN.{replicate}
 use mir.Syntax.{w64}
@@ -21,6 +23,11 @@ use Rattle.words.specs.Out.{Says, given, checked, unlessRefused, readWords}
 use Rattle.words.specs.State.{walkerOf, walkerWords, writerOf, writerWords}
 use Rattle.words.proofs.Laws.{says-refused}
 use Rattle.capi.specs.Calls.{Walks, nextAnswer, Writes}
+
+-- what holds of both choices
+pub either : {A : Type 0} (P : A → Type 0) (b : Bool) (x y : A) → P x → P y → P (cond b x y)
+either P true x y p q = p
+either P false x y p q = q
 
 -- ---- a result that is known
 
@@ -43,7 +50,7 @@ module _ {S : Type 0} {decoded : Answer S} {s : S} (e : decoded ≡ accepted s) 
 -- or they spell none: 1 at 0, and nothing changes
 module _ {S : Type 0} {decoded : Answer S} (e : decoded ≡ refused (numbered 1 0)) where
   illegal-says : (n : ℕ) (f : S → Answer (List ℕ)) → Says n (andThen decoded f) 1 (0 ∷ replicate (n - 1) 0)
-  illegal-says n f = says-refused n (ap (λ d. andThen d f) e) refl refl
+  illegal-says n f = says-refused n (ap (λ d. andThen d f) e) refl refl (λ z. omega arith)
 
   illegal-leaves : (before : List ℕ) (after : S → List ℕ) → before ≡ unlessRefused before decoded after
   illegal-leaves before after = ap (λ d. unlessRefused before d after) (sym e)
@@ -52,7 +59,7 @@ module _ {S : Type 0} {decoded : Answer S} (e : decoded ≡ refused (numbered 1 
 
 module _ (n : ℕ) (answer : Walker → Answer (List ℕ)) (next : Walker → Walker) (ws : List ℕ) where
   pub walks-illegal : walkerOf ws ≡ refused (numbered 1 0) → Walks n answer next ws 1 (0 ∷ replicate (n - 1) 0) ws
-  walks-illegal e = record { says = illegal-says e n answer; walker = illegal-leaves e ws (λ w. walkerWords (next w)) }
+  walks-illegal e = record { says = illegal-says e n answer; walker = illegal-leaves e ws _ }
 
   pub walks : {w : Walker} {number : ℕ} {out after : List ℕ} → walkerOf ws ≡ accepted w → Says n (answer w) number out
       → after ≡ walkerWords (next w) → Walks n answer next ws number out after

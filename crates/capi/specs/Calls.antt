@@ -44,10 +44,14 @@ indexAnswer file table = given single (buildOf file table .answer)
 abbrev pub parseAnswer : List ℕ → Bool → Answer (List ℕ)
 parseAnswer file strict = given preludeWords (cond strict (strictOf file) (parseOf file))
 
--- a call over a walker's words, what it answers and the walker after it: what it returns and leaves in `out`, of n words, and in the words
+-- the walker's words after a call
+abbrev pub walkerAfter : (Walker → Walker) → List ℕ → List ℕ
+walkerAfter next ws = unlessRefused ws (walkerOf ws) (λ w. walkerWords (next w))
+
+-- what a call over a walker's words returns and leaves: `out`, of n words, and the walker's
 pub record Walks (n : ℕ) (answer : Walker → Answer (List ℕ)) (next : Walker → Walker) (ws : List ℕ) (returned : ℕ) (out wsAfter : List ℕ) : Type 0 where
   pub says : Says n (andThen (walkerOf ws) answer) returned out
-  pub walker : wsAfter ≡ unlessRefused ws (walkerOf ws) (λ w. walkerWords (next w))
+  pub walker : wsAfter ≡ walkerAfter next ws
 
 -- a packet or End
 abbrev pub nextAnswer : List ℕ → Walker → Answer (List ℕ)
@@ -63,8 +67,15 @@ seekAnswer table stream request w = given single (seekOf table w stream request 
 abbrev pub seekWalker : List ℕ → ℕ → ℤ → Walker → Walker
 seekWalker table stream request w = seekOf table w stream request .walker
 
--- a writing call over a writer's words: what it returns and leaves in `out`, the words and the buffer
+-- the writer's words and the buffer after a writing call
+abbrev pub writerAfter : (Writer → Outcome) → List ℕ → List ℕ
+writerAfter call ws = unlessRefused ws (writerOf ws) (λ w. writerWords (call w .writer))
+
+abbrev pub bufferAfter : (Writer → Outcome) → List ℕ → List ℕ → List ℕ
+bufferAfter call ws buf = unlessRefused buf (writerOf ws) (λ w. call w .buffer)
+
+-- what a writing call over a writer's words returns and leaves: `out`, the writer's words and the buffer
 pub record Writes (call : Writer → Outcome) (ws buf : List ℕ) (returned : ℕ) (out wsAfter bufAfter : List ℕ) : Type 0 where
   pub says : Says 1 (andThen (writerOf ws) (λ w. checked (call w .answer))) returned out
-  pub writer : wsAfter ≡ unlessRefused ws (writerOf ws) (λ w. writerWords (call w .writer))
-  pub buffer : bufAfter ≡ unlessRefused buf (writerOf ws) (λ w. call w .buffer)
+  pub writer : wsAfter ≡ writerAfter call ws
+  pub buffer : bufAfter ≡ bufferAfter call ws buf

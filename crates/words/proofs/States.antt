@@ -1,6 +1,6 @@
 -- The words stand for the state. Assumes nothing.
 use mathlib.Core.Path.{_≡_, refl, sym, ap, _∙_}
-use Prim.Native.Nat.{ℕ, zero, suc, _+_, _≤_}
+use Prim.Native.Nat.{ℕ, zero, suc, _+_}
 use mathlib.Core.Bool.{Bool, true, false, _&&_}
 use mathlib.Core.List.{List, [], _∷_}
 use native.Mathlib.Omega.{arith}
@@ -8,8 +8,8 @@ use borrow.Author.Tests.{leb-true, eqb-true, eqb-false}
 use lib.Dec.{leb, eqb}
 use lib.ListN.{length, drop}
 use lib.Seq.{drop-cons, drop-length}
-use Rattle.error.specs.Answer.{Answer, accepted}
-use Rattle.words.specs.State.{word, markOf, markWord, notMet, trailerOf, trailerWord, askState, walkerLegal, walkerOf, walkerWords, settingsLegal, writerLegal, writerOf, writerWords, WordsStand}
+use Rattle.error.specs.Answer.{accepted}
+use Rattle.words.specs.State.{word, markOf, markWord, notMet, trailerOf, trailerWord, askState, walkerLegal, walkerWords, settingsLegal, writerLegal, writerWords, WordsStand}
 
 -- ---- a list by its elements
 

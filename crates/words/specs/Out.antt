@@ -18,10 +18,15 @@ abbrev pub outOf : ℕ → Answer (List ℕ) → List ℕ
 outOf n (accepted words) = 0 ∷ words
 outOf n (refused r) = r .place ∷ replicate (n - 1) 0
 
--- what a call returns, and the n words of its `out` as it leaves them
+abbrev pub Accepted : {A : Type 0} → Answer A → Type 0
+Accepted (accepted x) = Unit
+Accepted (refused r) = ⊥
+
+-- what a call returns, and the n words of its `out` as it leaves them; no refusal has the number 0
 pub record Says (n : ℕ) (answer : Answer (List ℕ)) (returned : ℕ) (out : List ℕ) : Type 0 where
   pub number : returned ≡ numberOf answer
   pub words : out ≡ outOf n answer
+  pub zero : returned ≡ 0 → Accepted answer
 
 -- an answer's value as words
 abbrev pub given : {A : Type 0} → (A → List ℕ) → Answer A → Answer (List ℕ)

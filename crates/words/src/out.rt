@@ -5,7 +5,6 @@ use error::AmvResult;
 use prelude::prelude::AmvPrelude;
 ghost use mathlib.Core.Path.{_≡_};
 ghost use mathlib.Core.List.{_∷_};
-ghost use lib.ListN.{length};
 ghost use Rattle.error.specs.Refusal.{said};
 ghost use Rattle.words.specs.Out.{Says, checked, durationWord, preludeWords, packetOut};
 

@@ -1,6 +1,6 @@
 use mathlib.Core.Path.{refl}
 use Rattle.chunk_index.specs.Index.{saidIndex}
-use Rattle.words.proofs.Laws.{says-accepted, says-refused}
+use Rattle.words.proofs.Laws.{says-accepted, says-error}
 use Rattle.capi.specs.Calls.{single}
 use Rattle.capi.proofs.Laws.{gave}
 use borrow.Author.Needs.{needs}
@@ -48,7 +48,7 @@ same-length-2 c = search needs
 -- src/lib.rt:88:1
 returns-2 : tie.Need-returns-2
 returns-2 c = let b = c .before .before .before .before .before .before .before .before .build-chunk-index .ensures in
-    (says-refused 2 (gave saidIndex single (b .0) (c .before .before .before .before .e .given .1)) (c .number .ensures) (c .before .before .place .ensures), b .1)
+    (says-error 2 (c .before .before .before .before .e .given .0 .0) (gave saidIndex single (b .0) (c .before .before .before .before .e .given .1)) (c .number .ensures) (c .before .before .place .ensures), b .1)
 
 pub amv-build-chunk-index-spec : {M : Type 1} → statement M
 amv-build-chunk-index-spec =

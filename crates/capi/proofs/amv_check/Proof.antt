@@ -1,7 +1,5 @@
-use mathlib.Core.Path.{ap}
-use mathlib.Core.List.{[], _∷_}
 use Rattle.recording.specs.Check.{saidCheck}
-use Rattle.words.proofs.Laws.{says-accepted, says-refused}
+use Rattle.words.proofs.Laws.{says-accepted, says-error}
 use Rattle.capi.specs.Calls.{totalsWords}
 use Rattle.capi.proofs.Laws.{gave}
 use borrow.Author.Needs.{needs}
@@ -40,12 +38,12 @@ number-requires c κs = search needs
 
 -- src/lib.rt:65:1
 returns : tie.Need-returns
-returns c = let t = c .before .before .before .totals .given .0 in
+returns c =
     says-accepted 6 (gave saidCheck totalsWords (c .before .before .before .before .before .check .ensures) (c .before .before .before .totals .given .1)) (cc)
 
 -- src/lib.rt:65:1
 returns-2 : tie.Need-returns-2
-returns-2 c = says-refused 6 (gave saidCheck totalsWords (c .before .before .before .before .before .before .check .ensures) (c .before .before .before .before .e .given .1)) (c .number .ensures) (c .before .before .place .ensures)
+returns-2 c = says-error 6 (c .before .before .before .before .e .given .0 .0) (gave saidCheck totalsWords (c .before .before .before .before .before .before .check .ensures) (c .before .before .before .before .e .given .1)) (c .number .ensures) (c .before .before .place .ensures)
 
 pub amv-check-spec : {M : Type 1} → statement M
 amv-check-spec =

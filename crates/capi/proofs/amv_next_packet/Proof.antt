@@ -1,6 +1,6 @@
 use mathlib.Core.Path.{refl, ap, _∙_}
 use Rattle.words.specs.State.{saidWalker, walkerWords}
-use Rattle.words.proofs.Laws.{says-accepted, says-refused, packet-placed}
+use Rattle.words.proofs.Laws.{says-accepted, says-error, packet-placed}
 use Rattle.capi.specs.Calls.{nextWalker}
 use Rattle.capi.proofs.Laws.{known, walks-illegal, walks, read-gave}
 use borrow.Author.Needs.{needs}
@@ -95,7 +95,7 @@ returns-4 c =
     let w = s .state .given .0 .0 in
     let r = c .before .before .before .before .before .before .before .before .next-packet in
     walks 7 _ (nextWalker (a .file .now)) _ (known saidWalker (s .before .before .walker-of .ensures) (s .state .given .1))
-    (says-refused 7 (read-gave (a .file .now) w (r .ensures .0) (c .before .before .before .before .answer2 .given .1)) (c .number .ensures)
+    (says-error 7 (c .before .before .before .before .answer2 .given .0 .0) (read-gave (a .file .now) w (r .ensures .0) (c .before .before .before .before .answer2 .given .1)) (c .number .ensures)
     (c .before .before .place .ensures))
     (c .before .before .before .before .before .before .walker-words .ensures ∙ ap (λ q. walkerWords (q .walker)) (r .ensures .0))
 

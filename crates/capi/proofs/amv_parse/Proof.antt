@@ -1,6 +1,6 @@
 use Rattle.prelude.specs.Prelude.{saidPrelude}
 use Rattle.words.specs.Out.{preludeWords}
-use Rattle.words.proofs.Laws.{says-accepted, says-refused}
+use Rattle.words.proofs.Laws.{says-accepted, says-error}
 use Rattle.capi.proofs.Laws.{gave}
 use borrow.Author.Needs.{needs}
 use Rattle.capi.proofs.amv_parse.Statement.{statement}
@@ -42,7 +42,7 @@ returns c = says-accepted 16 (gave saidPrelude preludeWords (c .before .before .
 
 -- src/lib.rt:115:1
 returns-2 : tie.Need-returns-2
-returns-2 c = says-refused 16 (gave saidPrelude preludeWords (c .before .before .before .before .before .before .parsed .ensures) (c .before .before .before .before .e .given .1)) (c .number .ensures) (c .before .before .place .ensures)
+returns-2 c = says-error 16 (c .before .before .before .before .e .given .0 .0) (gave saidPrelude preludeWords (c .before .before .before .before .before .before .parsed .ensures) (c .before .before .before .before .e .given .1)) (c .number .ensures) (c .before .before .place .ensures)
 
 pub amv-parse-spec : {M : Type 1} → statement M
 amv-parse-spec =

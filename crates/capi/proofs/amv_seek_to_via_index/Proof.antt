@@ -1,7 +1,7 @@
 use mathlib.Core.Path.{refl, ap, _∙_}
 use Rattle.seek.specs.Seek.{saidSeek}
 use Rattle.words.specs.State.{saidWalker, walkerWords}
-use Rattle.words.proofs.Laws.{says-accepted, says-refused}
+use Rattle.words.proofs.Laws.{says-accepted, says-error}
 use Rattle.capi.specs.Calls.{single, seekAnswer, seekWalker}
 use Rattle.capi.proofs.Laws.{known, gave, walks-illegal, walks, as-requested}
 use borrow.Author.Needs.{needs}
@@ -77,7 +77,7 @@ returns-3 c =
     let r = c .before .before .before .before .before .before .before .before .seek-to-via-index in
     let e = as-requested (a .table .now) (s .state .given .0 .0) (a .stream) (a .request) (b .fits .request) (r .ensures) in
     walks 2 (seekAnswer (a .table .now) (a .stream) (a .request)) (seekWalker (a .table .now) (a .stream) (a .request)) _ (known saidWalker (s .before .before .walker-of .ensures) (s .state .given .1))
-    (says-refused 2 (gave saidSeek single (ap (λ q. q .answer) e) (c .before .before .before .before .result2 .given .1)) (c .number .ensures)
+    (says-error 2 (c .before .before .before .before .result2 .given .0 .0) (gave saidSeek single (ap (λ q. q .answer) e) (c .before .before .before .before .result2 .given .1)) (c .number .ensures)
     (c .before .before .place .ensures))
     (c .before .before .before .before .before .before .walker-words .ensures ∙ ap (λ q. walkerWords (q .walker)) e)
 

@@ -1,6 +1,6 @@
 use mathlib.Core.Path.{refl}
 use Rattle.chunk_index.specs.Index.{saidSummary}
-use Rattle.words.proofs.Laws.{says-accepted, says-refused}
+use Rattle.words.proofs.Laws.{says-accepted, says-error}
 use Rattle.capi.specs.Calls.{countsWords}
 use Rattle.capi.proofs.Laws.{gave}
 use borrow.Author.Needs.{needs}
@@ -38,7 +38,7 @@ returns c = says-accepted 3 (gave saidSummary countsWords (c .before .before .be
 
 -- src/lib.rt:49:1
 returns-2 : tie.Need-returns-2
-returns-2 c = says-refused 3 (gave saidSummary countsWords (c .before .before .before .before .before .before .summary .ensures) (c .before .before .before .before .e .given .1)) (c .number .ensures) (c .before .before .place .ensures)
+returns-2 c = says-error 3 (c .before .before .before .before .e .given .0 .0) (gave saidSummary countsWords (c .before .before .before .before .before .before .summary .ensures) (c .before .before .before .before .e .given .1)) (c .number .ensures) (c .before .before .place .ensures)
 
 pub amv-summary-spec : {M : Type 1} → statement M
 amv-summary-spec =

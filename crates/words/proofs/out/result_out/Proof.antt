@@ -1,7 +1,7 @@
-use mathlib.Core.Path.{ap}
+use mathlib.Core.Path.{refl, ap}
 use Rattle.error.specs.Refusal.{said}
 use Rattle.words.specs.Out.{checked}
-use Rattle.words.proofs.Laws.{says-refused}
+use Rattle.words.proofs.Laws.{says-accepted, says-error}
 use borrow.Author.Needs.{needs}
 use Rattle.words.proofs.out.result_out.Statement.{statement}
 use Rattle.words.proofs.out.result_out.Tie as tie
@@ -28,11 +28,11 @@ number-requires c κs = search needs
 
 -- src/out.rt:16:1
 returns : tie.Need-returns
-returns c = search needs
+returns c = says-accepted 1 (ap (λ r. checked (said r)) (c .before .enum-told .given .1)) refl
 
 -- src/out.rt:16:1
 returns-2 : tie.Need-returns-2
-returns-2 c = says-refused 1 (ap (λ r. checked (said r)) (c .before .before .before .before .result .given .1)) (c .number .ensures) (c .before .before .place .ensures)
+returns-2 c = says-error 1 (c .before .before .before .before .result .given .0 .0) (ap (λ r. checked (said r)) (c .before .before .before .before .result .given .1)) (c .number .ensures) (c .before .before .place .ensures)
 
 pub result-out-spec : {M : Type 1} → statement M
 result-out-spec =
