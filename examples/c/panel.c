@@ -14,8 +14,6 @@
 enum { CURSOR, FRAMES, SAMPLES, BLOCKS, END, CUT, TRAILER, WALKER_WORDS };
 enum { PLACE, IS_PACKET, STREAM, OFFSET, LENGTH, STAMP, DURATION, PACKET_WORDS };
 
-static const uint64_t FRESH[WALKER_WORDS] = {316, 0, 0, 0, 0, 0, UINT64_MAX};
-
 /* A file in memory, and its pictures a second for the clock. */
 struct recording {
     uint8_t *file;
@@ -146,7 +144,7 @@ static int jump(const uint8_t *table, size_t table_len, uint64_t walker[WALKER_W
 int main(int argc, char **argv)
 {
     struct recording r;
-    uint64_t walker[WALKER_WORDS];
+    uint64_t walker[WALKER_WORDS] = AMV_FRESH_WALKER;
     size_t table_len;
 
     if (argc != 3) {
@@ -161,8 +159,6 @@ int main(int argc, char **argv)
         printf("no index\n");
         return 1;
     }
-    for (int i = 0; i < WALKER_WORDS; i++)
-        walker[i] = FRESH[i];
     if (jump(table, table_len, walker, strtoull(argv[2], NULL, 10))) {
         play(&r, walker, 4, true);
         printf("  and %" PRIu64 " more to the end\n", play(&r, walker, UINT64_MAX, false));

@@ -38,7 +38,7 @@ static size_t sound(uint8_t *to, unsigned samples)
 int main(int argc, char **argv)
 {
     static uint8_t file[ROOM], payload[1024];
-    uint64_t writer[9] = {64, 48, FPS, RATE, 1, 0, 0, 0, 0}; /* width, height, fps, rate, channels; a fresh state */
+    uint64_t writer[9] = AMV_FRESH_WRITER(64, 48, FPS, RATE, 1);
     uint64_t out[1];
 
     if (argc != 2) {
