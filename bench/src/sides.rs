@@ -1,0 +1,196 @@
+//! What is timed, on three sides: the library, the plain program with the library's interface, and the plain program with Rust's types.
+
+use plain::{PRELUDE, Walker, Writer, calls, words};
+
+/// Each run gives a number that depends on its answers, so that the sides can be compared.
+pub struct Side {
+    pub index: fn(&[u8], &mut [u8]) -> u64,
+    pub drain: fn(&[u8]) -> u64,
+    pub seeks: fn(&[u8]) -> u64,
+    pub check: fn(&[u8]) -> u64,
+    pub write: fn(&mut [u8], usize, &[u8]) -> u64,
+}
+
+mod c {
+    unsafe extern "C" {
+        pub fn amv_next_packet(
+            file: *const u8,
+            len: usize,
+            walker: &mut [u64; 7],
+            out: &mut [u64; 7],
+        ) -> u32;
+        pub fn amv_build_chunk_index(
+            file: *const u8,
+            len: usize,
+            table: *mut u8,
+            table_len: usize,
+            out: &mut [u64; 2],
+        ) -> u32;
+        pub fn amv_seek_to_via_index(
+            table: *const u8,
+            table_len: usize,
+            walker: &mut [u64; 7],
+            stream: u32,
+            request: i64,
+            out: &mut [u64; 2],
+        ) -> u32;
+        pub fn amv_check(file: *const u8, len: usize, out: &mut [u64; 6]) -> u32;
+        pub fn amv_write_header(
+            writer: &mut [u64; 9],
+            buf: *mut u8,
+            len: usize,
+            out: &mut [u64; 1],
+        ) -> u32;
+        pub fn amv_write_packet(
+            writer: &mut [u64; 9],
+            buf: *mut u8,
+            len: usize,
+            payload: *const u8,
+            payload_len: usize,
+            stream: u32,
+            out: &mut [u64; 1],
+        ) -> u32;
+        pub fn amv_write_trailer(
+            writer: &mut [u64; 9],
+            buf: *mut u8,
+            len: usize,
+            out: &mut [u64; 1],
+        ) -> u32;
+    }
+}
+
+/// So many seeks in a run, to frames spread over the table.
+pub const SEEKS: i64 = 64;
+
+const FRESH: [u64; 7] = [PRELUDE as u64, 0, 0, 0, 0, 0, u64::MAX];
+const FRESH_WRITER: [u64; 9] = [160, 120, 12, 22_050, 1, 0, 0, 0, 0];
+
+/// The two sides that have the C interface differ in the functions alone.
+macro_rules! side_of_words {
+    ($next:path, $index:path, $seek:path, $check:path, $header:path, $packet:path, $trailer:path) => {
+        Side {
+            index: |file, table| {
+                let mut out = [0; 2];
+                let (records, len) = (table.as_mut_ptr(), table.len());
+                let number = unsafe { $index(file.as_ptr(), file.len(), records, len, &mut out) };
+                out[1] + number as u64
+            },
+            drain: |file| {
+                let (mut walker, mut out) = (FRESH, [0; 7]);
+                let mut sum = 0;
+                loop {
+                    let number = unsafe { $next(file.as_ptr(), file.len(), &mut walker, &mut out) };
+                    if number != 0 || out[1] == 0 {
+                        return sum;
+                    }
+                    sum += out[2] + (out[3] ^ out[5]) + out[4] + out[6];
+                }
+            },
+            seeks: |table| {
+                let (mut walker, mut out) = (FRESH, [0; 2]);
+                let last = (table.len() / 24) as i64;
+                let mut sum = 0;
+                for i in 0..SEEKS {
+                    let request = last * i / SEEKS;
+                    let (from, len) = (table.as_ptr(), table.len());
+                    unsafe { $seek(from, len, &mut walker, 0, request, &mut out) };
+                    sum += out[1] ^ walker[0];
+                }
+                sum
+            },
+            check: |file| {
+                let mut out = [0; 6];
+                let number = unsafe { $check(file.as_ptr(), file.len(), &mut out) };
+                out.iter().sum::<u64>() + number as u64
+            },
+            write: |buf, count, payload| {
+                let (mut writer, mut out) = (FRESH_WRITER, [0]);
+                let (bytes, len) = (buf.as_mut_ptr(), buf.len());
+                let (from, size) = (payload.as_ptr(), payload.len());
+                unsafe {
+                    $header(&mut writer, bytes, len, &mut out);
+                    for _ in 0..count {
+                        $packet(&mut writer, bytes, len, from, size, 0, &mut out);
+                    }
+                    $trailer(&mut writer, bytes, len, &mut out);
+                }
+                writer[7]
+            },
+        }
+    };
+}
+
+pub const LIBRARY: Side = side_of_words!(
+    c::amv_next_packet,
+    c::amv_build_chunk_index,
+    c::amv_seek_to_via_index,
+    c::amv_check,
+    c::amv_write_header,
+    c::amv_write_packet,
+    c::amv_write_trailer
+);
+
+#[allow(unused_unsafe)]
+pub const WORDS: Side = side_of_words!(
+    words::next_packet,
+    words::build_chunk_index,
+    words::seek_to_via_index,
+    words::check,
+    words::write_header,
+    words::write_packet,
+    words::write_trailer
+);
+
+pub const CALLS: Side = Side {
+    index: |file, table| calls::build_chunk_index(file, table).unwrap(),
+    drain: |file| {
+        let mut walker = Walker::new();
+        let mut sum = 0;
+        while let Ok(Some(packet)) = calls::next_packet(file, &mut walker) {
+            sum += packet.stream as u64
+                + (packet.start ^ packet.stamp)
+                + packet.length
+                + packet.duration;
+        }
+        sum
+    },
+    seeks: |table| {
+        let mut walker = Walker::new();
+        let last = (table.len() / 24) as i64;
+        let mut sum = 0;
+        for i in 0..SEEKS {
+            let request = last * i / SEEKS;
+            let stamp = calls::seek_to_via_index(table, &mut walker, 0, request).unwrap();
+            sum += stamp ^ walker.cursor;
+        }
+        sum
+    },
+    check: |file| {
+        let totals = calls::check(file).unwrap();
+        let paired = totals.paired as u64;
+        totals.frames + totals.blocks + totals.samples + totals.trailer + paired
+    },
+    write: |buf, count, payload| {
+        let mut writer = fresh_writer();
+        calls::write_header(&mut writer, buf).unwrap();
+        for _ in 0..count {
+            calls::write_packet(&mut writer, buf, payload, 0).unwrap();
+        }
+        calls::write_trailer(&mut writer, buf).unwrap();
+        writer.written
+    },
+};
+
+pub fn fresh_writer() -> Writer {
+    Writer {
+        width: 160,
+        height: 120,
+        fps: 12,
+        rate: 22_050,
+        channels: 1,
+        begun: false,
+        ended: false,
+        written: 0,
+        frames: 0,
+    }
+}

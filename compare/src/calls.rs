@@ -1,0 +1,326 @@
+//! One comparison of one call: the plain implementation, the library, and the original under the rules.
+
+use crate::original::{self, Told};
+use crate::plain::{self, Refusal, Walker};
+use crate::rules::{self, Expected};
+use crate::tally::{Tally, hex};
+use crate::words::{self, Said, WalkerWords, Write, WriterWords, accepted, refused};
+use crate::{library, tally};
+
+/// Whether the original agrees with what is expected of it. The rule that was needed is entered. Where the original cannot be
+/// asked there is no answer on either side.
+fn original_agrees<T: PartialEq>(
+    tally: &mut Tally,
+    expected: &Expected<T>,
+    told: &Option<T>,
+) -> bool {
+    if let Some(rule) = expected.rule {
+        tally.met(rule);
+    }
+    expected.answer == *told
+}
+
+pub fn from_frame_count(tally: &mut Tally, frames: u64, fps: u32) {
+    let plain = words::from_frame_count(frames, fps);
+    let library = library::from_frame_count(frames, fps);
+    let original = original::from_frame_count(frames, fps);
+    let same = plain == library && plain == original;
+    tally.judge("from_frame_count", same, || {
+        format!("{frames} {fps}: plain {plain}, library {library:?}, original {original}")
+    });
+}
+
+pub fn validate_movi_interleave(tally: &mut Tally, tags: &[u32]) {
+    let plain = words::validate_movi_interleave(tags);
+    let library = library::validate_movi_interleave(tags);
+    let original = original::validate_movi_interleave(tags);
+    let same = plain == library && original == Told::Said(plain);
+    tally.judge("validate_movi_interleave", same, || {
+        format!("{tags:x?}: plain {plain:?}, library {library:?}, original {original:?}")
+    });
+}
+
+/// Both parses.
+pub fn parse(tally: &mut Tally, file: &[u8]) {
+    for strict in [false, true] {
+        let plain = words::parse(file, strict);
+        let library = library::parse(file, strict);
+        let original = original::parse(file, strict);
+        let expected = rules::parse(plain);
+        let same = (plain == library) & original_agrees(tally, &expected, &Some(original));
+        let function = if strict { "parse_strict" } else { "parse" };
+        tally.judge(function, same, || {
+            format!(
+                "{}: plain {plain:?}, library {library:?}, original {original:?}",
+                hex(file)
+            )
+        });
+    }
+}
+
+/// One read. The walker that the plain implementation leaves is stored.
+pub fn next_packet(
+    tally: &mut Tally,
+    original: &mut original::File,
+    file: &[u8],
+    walker: &mut WalkerWords,
+) -> Said<7> {
+    let given = *walker;
+    let plain = words::next_packet(file, walker);
+    let mut library_walker = given;
+    let library = library::next_packet(file, &mut library_walker);
+    let expected = rules::next_packet(
+        file,
+        words::walker_of(&given),
+        plain,
+        words::walker_of(walker),
+    );
+    let told = words::walker_of(&given).map(|mut state| {
+        let told = original.next_packet(&mut state);
+        (told, state)
+    });
+    let left_same = library_walker == *walker;
+    let same = (plain == library) & left_same & original_agrees(tally, &expected, &told);
+    tally.judge("next_packet", same, || {
+        format!(
+            "{given:?} on {}: plain {plain:?} {walker:?}, library {library:?} {library_walker:?}, original {told:?}",
+            hex(file)
+        )
+    });
+    plain
+}
+
+/// A lent buffer in the middle of a larger one, whose other bytes must stay.
+pub struct Guarded {
+    bytes: Vec<u8>,
+    start: usize,
+    end: usize,
+}
+
+impl Guarded {
+    /// The start varies with the contents, so that aligned and unaligned buffers are both lent.
+    pub fn new(contents: &[u8]) -> Self {
+        let start = 8 + contents.len() % 8;
+        let mut bytes = vec![0x5a; start + contents.len() + 16];
+        let end = start + contents.len();
+        bytes[start..end].copy_from_slice(contents);
+        Self { bytes, start, end }
+    }
+
+    pub fn lent(&mut self) -> &mut [u8] {
+        &mut self.bytes[self.start..self.end]
+    }
+
+    /// Whether the contents are these and nothing beside them was written.
+    pub fn holds(&self, contents: &[u8]) -> bool {
+        let beside = self.bytes[..self.start]
+            .iter()
+            .chain(&self.bytes[self.end..]);
+        self.bytes[self.start..self.end] == *contents && beside.copied().all(|byte| byte == 0x5a)
+    }
+}
+
+/// The index into a table of that length, whose bytes are filled with a pattern first.
+pub fn build_chunk_index(
+    tally: &mut Tally,
+    original: &mut original::File,
+    file: &[u8],
+    table_len: usize,
+) {
+    let given = vec![0xc3; table_len];
+    let mut table = given.clone();
+    let plain = words::build_chunk_index(file, &mut table);
+    let mut lent = Guarded::new(&given);
+    let library = library::build_chunk_index(file, lent.lent());
+    let library_same = plain == library && lent.holds(&table);
+    let original_same = index_agrees(tally, plain, original.records(), file);
+    tally.judge("build_chunk_index", library_same && original_same, || {
+        format!(
+            "table of {table_len} on {}: plain {plain:?} {}, library {library:?} {}, original agrees {original_same}",
+            hex(file),
+            hex(&table),
+            hex(lent.lent())
+        )
+    });
+}
+
+/// The original has the records of the walk or its refusal; a table that is too short is no concern of it.
+fn index_agrees(
+    tally: &mut Tally,
+    plain: Said<2>,
+    original: Result<Vec<plain::Record>, Told<2>>,
+    file: &[u8],
+) -> bool {
+    if plain.number == 40 {
+        tally.met(rules::TABLE_ROOM);
+    }
+    match plain::records(file) {
+        Ok(records) => original == Ok(records),
+        Err(Refusal { number, place }) => {
+            original == Err(Told::Said(refused(number, place))) && plain == refused(number, place)
+        }
+    }
+}
+
+pub fn seek_to_via_index(
+    tally: &mut Tally,
+    table: &[u8],
+    walker: &mut WalkerWords,
+    stream: u32,
+    request: i64,
+) {
+    let given = *walker;
+    let plain = words::seek_to_via_index(table, walker, stream, request);
+    let mut library_walker = given;
+    let library = library::seek_to_via_index(table, &mut library_walker, stream, request);
+    let expected = rules::seek(
+        table,
+        words::walker_of(&given),
+        stream,
+        request,
+        plain,
+        words::walker_of(walker),
+    );
+    let told = expected
+        .answer
+        .as_ref()
+        .and(words::walker_of(&given))
+        .map(|state| told_seek(table, state, stream, request));
+    let left_same = library_walker == *walker;
+    let same = (plain == library) & left_same & original_agrees(tally, &expected, &told);
+    tally.judge("seek_to_via_index", same, || {
+        format!(
+            "stream {stream} request {request} walker {given:?} table {}: plain {plain:?} {walker:?}, library {library:?} {library_walker:?}, original {told:?}",
+            hex(table)
+        )
+    });
+}
+
+/// The public seek of the original on the same records.
+pub fn public_seek(tally: &mut Tally, table: &[u8], given: Walker, stream: u32, request: i64) {
+    let private = told_seek(table, given, stream, request);
+    let expected = rules::public_seek(stream, request, given, private);
+    let mut state = given;
+    let told = original::public_seek(&plain::read_table(table), &mut state, stream, request);
+    let told = Some((told, state));
+    let same = original_agrees(tally, &expected, &told);
+    tally.judge("seek_to (original)", same, || {
+        format!(
+            "stream {stream} request {request} walker {given:?} table {}: {told:?}",
+            hex(table)
+        )
+    });
+}
+
+/// Whether the original's `open` takes the settings.
+pub fn opens(tally: &mut Tally, settings: &plain::Settings) {
+    let expected = rules::opens(settings);
+    let told = Some(original::opens(settings));
+    let same = original_agrees(tally, &expected, &told);
+    tally.judge("open (original)", same, || {
+        format!("{settings:?}: {told:?}")
+    });
+}
+
+fn told_seek(table: &[u8], mut state: Walker, stream: u32, request: i64) -> (Told<2>, Walker) {
+    let records = plain::read_table(table);
+    let told = original::seek(&records, &mut state, stream, request);
+    (told, state)
+}
+
+/// The summary. The original has none: its records are counted.
+pub fn summary(tally: &mut Tally, original: &mut original::File, file: &[u8]) {
+    let plain = words::summary(file);
+    let library = library::summary(file);
+    let counted = match original.records() {
+        Err(Told::Said(said)) => refused(said.number, said.out[0]),
+        Err(_) => refused(u32::MAX, 0),
+        Ok(records) => {
+            let frames = records.iter().filter(|r| r.tag == plain::VIDEO).count();
+            accepted(&[frames as u64, (records.len() - frames) as u64])
+        }
+    };
+    let same = plain == library && plain == counted;
+    tally.judge("summary", same, || {
+        format!(
+            "{}: plain {plain:?}, library {library:?}, original {counted:?}",
+            hex(file)
+        )
+    });
+}
+
+/// The check, which the original lacks: it accepts what the grammar recognises, and its totals are the drain's.
+pub fn check(tally: &mut Tally, file: &[u8]) -> bool {
+    let plain = words::check(file);
+    let library = library::check(file);
+    let finished = plain::finished(file);
+    let by_grammar = finished.as_deref().map(|chunks| drain_totals(file, chunks));
+    let grammar_same = by_grammar == (plain.number == 0).then_some(plain);
+    let same = plain == library && grammar_same;
+    tally.judge("check", same, || {
+        format!(
+            "{}: plain {plain:?}, library {library:?}, grammar {by_grammar:?}",
+            hex(file)
+        )
+    });
+    finished.is_some()
+}
+
+fn drain_totals(file: &[u8], chunks: &[plain::Chunk]) -> Said<6> {
+    let tags: Vec<u32> = chunks.iter().map(|chunk| chunk.tag).collect();
+    let packets = plain::drain(file, chunks);
+    let of = |stream| packets.iter().filter(move |(p, _)| p.stream == stream);
+    accepted(&[
+        of(0).count() as u64,
+        of(1).count() as u64,
+        of(1).map(|(packet, _)| packet.duration).sum(),
+        file.len() as u64 - 8,
+        plain::validate_movi_interleave(&tags).is_ok() as u64,
+    ])
+}
+
+/// A writing call. State and buffer become those that the plain implementation leaves.
+pub fn write(
+    tally: &mut Tally,
+    writer: &mut WriterWords,
+    buf: &mut Vec<u8>,
+    call: Write,
+) -> Said<1> {
+    let given = *writer;
+    let mut lent = Guarded::new(buf);
+    let mut original_buf = buf.clone();
+    let expected = match words::writer_of(&given) {
+        None => Expected {
+            rule: Some(rules::STATE_WORDS),
+            answer: None,
+        },
+        Some(state) => rules::write(&state, buf, call),
+    };
+    let plain = words::write(writer, buf, call);
+    let mut library_writer = given;
+    let library = library::write(&mut library_writer, lent.lent(), call);
+    let library_same = plain == library && library_writer == *writer && lent.holds(buf);
+    let told = expected
+        .answer
+        .as_ref()
+        .and(words::writer_of(&given))
+        .map(|state| original::write(&state, &mut original_buf, call))
+        .map(|wrote| (wrote, original_buf));
+    let same = library_same & original_agrees(tally, &expected, &told);
+    let function = match call {
+        Write::Header => "write_header",
+        Write::Packet(..) => "write_packet",
+        Write::Trailer => "write_trailer",
+    };
+    tally.judge(function, same, || {
+        format!(
+            "{call:?} on {given:?}, buffer of {}: plain {plain:?} {writer:?} {}, library {library:?} {library_writer:?} {}, original {:?} {}",
+            buf.len(),
+            tally::hex(buf),
+            tally::hex(lent.lent()),
+            told.as_ref().map(|(wrote, _)| wrote),
+            told.as_ref().map_or(String::new(), |(_, bytes)| hex(bytes)),
+        )
+    });
+    plain
+}

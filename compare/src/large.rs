@@ -1,0 +1,197 @@
+//! Files, payloads and buffers at the file limit. Their pages are zero until written, so they take little memory.
+
+use crate::plain::{self, FILE_LIMIT, PRELUDE, TRAILER, VIDEO, Walker, Writer};
+use crate::rules;
+use crate::tally::Tally;
+use crate::words::{self, Said, Write, accepted, refused};
+use crate::{files, library, original};
+
+const LIMIT: usize = FILE_LIMIT as usize;
+
+/// A recording of exactly the limit: one frame that fills it. A byte more stands after it.
+fn full_recording() -> Vec<u8> {
+    let mut file = vec![0; LIMIT + 1];
+    let prelude = plain::build_prelude(files::EXAMPLE_SETTINGS, 0);
+    file[..PRELUDE].copy_from_slice(&prelude);
+    let length = LIMIT - PRELUDE - 16;
+    file[PRELUDE..PRELUDE + 4].copy_from_slice(&VIDEO.to_le_bytes());
+    file[PRELUDE + 4..PRELUDE + 8].copy_from_slice(&(length as u32).to_le_bytes());
+    file[LIMIT - 8..LIMIT].copy_from_slice(TRAILER);
+    file
+}
+
+pub fn suite(tally: &mut Tally) {
+    let mut file = full_recording();
+    within(tally, &file[..LIMIT]);
+    beyond(tally, &file);
+    long_payload(tally, &file);
+    writes(tally, &mut file);
+    tally.equal("write_packet", 52, original::write_by_value(file), || {
+        "a payload past the limit".into()
+    });
+    let file = full_recording();
+    let records = plain::records(&file[..LIMIT]).ok();
+    let told = original::records_by_value(file);
+    tally.equal("build_chunk_index", records, told, || {
+        "a file past the limit".into()
+    });
+    tally.met(rules::FILE_LIMIT);
+}
+
+fn judge<T: PartialEq + std::fmt::Debug>(
+    tally: &mut Tally,
+    name: &'static str,
+    expected: T,
+    plain: T,
+    library: T,
+) {
+    let same = plain == expected && library == expected;
+    tally.judge(name, same, || {
+        format!("expected {expected:?}, plain {plain:?}, library {library:?}")
+    });
+}
+
+/// A file at the limit is read like any other.
+fn within(tally: &mut Tally, file: &[u8]) {
+    let trailer = (LIMIT - 8) as u64;
+    let totals = accepted(&[1, 0, 0, trailer, 0]);
+    judge(
+        tally,
+        "check",
+        totals,
+        words::check(file),
+        library::check(file),
+    );
+    let counts = accepted(&[1, 0]);
+    judge(
+        tally,
+        "summary",
+        counts,
+        words::summary(file),
+        library::summary(file),
+    );
+    let packet = accepted(&[1, 0, 324, (LIMIT - PRELUDE - 16) as u64, 0, 1]);
+    let left = [trailer, 1, 0, 0, 0, 0, u64::MAX];
+    read(tally, file, (packet, left));
+}
+
+fn read(tally: &mut Tally, file: &[u8], expected: (Said<7>, words::WalkerWords)) {
+    let mut walker = words::walker_words(&Walker::fresh());
+    let mut library_walker = walker;
+    let plain = words::next_packet(file, &mut walker);
+    let library = library::next_packet(file, &mut library_walker);
+    let library = (library, library_walker);
+    judge(tally, "next_packet", expected, (plain, walker), library);
+}
+
+/// A byte more than the limit is 10 everywhere. The original has no limit: it answers as for the file without that byte.
+fn beyond(tally: &mut Tally, file: &[u8]) {
+    judge(
+        tally,
+        "check",
+        refused(10, 0),
+        words::check(file),
+        library::check(file),
+    );
+    judge(
+        tally,
+        "summary",
+        refused(10, 0),
+        words::summary(file),
+        library::summary(file),
+    );
+    let fresh = words::walker_words(&Walker::fresh());
+    read(tally, file, (refused(10, 0), fresh));
+    let (mut table, mut library_table) = ([0xc3; 24], [0xc3; 24]);
+    let plain = words::build_chunk_index(file, &mut table);
+    let library = library::build_chunk_index(file, &mut library_table);
+    let library = (library, library_table);
+    let expected = (refused(10, 0), [0xc3; 24]);
+    judge(
+        tally,
+        "build_chunk_index",
+        expected,
+        (plain, table),
+        library,
+    );
+    for strict in [false, true] {
+        let (plain, library) = (words::parse(file, strict), library::parse(file, strict));
+        judge(tally, "parse", refused(10, 0), plain, library);
+        let told = original::parse(file, strict);
+        let unlimited = original::Told::Said(words::parse(&file[..LIMIT], strict));
+        tally.equal("parse", unlimited, told, || "a file past the limit".into());
+        tally.met(rules::FILE_LIMIT);
+    }
+}
+
+/// A payload of a byte more than its length field can say.
+fn long_payload(tally: &mut Tally, payload: &[u8]) {
+    let mut writer = Writer::fresh(files::EXAMPLE_SETTINGS);
+    let mut buf = [0xc3; 400];
+    writer.write_header(&mut buf).unwrap();
+    let given = words::writer_words(&writer);
+    let (mut plain_writer, mut library_writer) = (given, given);
+    let mut library_buf = buf;
+    let expected = (refused(52, 316), given, buf);
+    let call = Write::Packet(payload, 0);
+    let plain = words::write(&mut plain_writer, &mut buf, call);
+    let library = library::write(&mut library_writer, &mut library_buf, call);
+    let library = (library, library_writer, library_buf);
+    judge(
+        tally,
+        "write_packet",
+        expected,
+        (plain, plain_writer, buf),
+        library,
+    );
+}
+
+/// Writes that end at the limit, and a byte after it, in a buffer that reaches further.
+fn writes(tally: &mut Tally, buf: &mut Vec<u8>) {
+    buf.resize(LIMIT + 100, 0);
+    for (call, past) in [
+        (Write::Packet(b"abc", 0), 11),
+        (Write::Trailer, 8),
+        (Write::Packet(b"", 1), 8),
+    ] {
+        for over in [0, 1] {
+            let mut writer = Writer::fresh(files::EXAMPLE_SETTINGS);
+            writer.begun = true;
+            writer.written = (LIMIT - past + over) as u64;
+            write_at_limit(tally, &writer, buf, call);
+        }
+    }
+}
+
+/// The bytes that such a write could change.
+fn tail(buf: &[u8]) -> Vec<u8> {
+    buf[LIMIT - 20..].to_vec()
+}
+
+fn write_at_limit(tally: &mut Tally, given: &Writer, buf: &mut Vec<u8>, call: Write) {
+    let words = words::writer_words(given);
+    let fill = |buf: &mut [u8]| buf[LIMIT - 20..].fill(0xc3);
+    fill(buf);
+    let mut writer = words;
+    let said = words::write(&mut writer, buf, call);
+    let plain = (said, writer, tail(buf));
+    fill(buf);
+    let mut writer = words;
+    let said = library::write(&mut writer, buf, call);
+    let library = (said, writer, tail(buf));
+    let same = library == plain;
+    tally.judge("writes at the limit", same, || {
+        format!("{call:?} on {words:?}: plain {plain:?}, library {library:?}")
+    });
+    // The original knows no limit: it writes.
+    fill(buf);
+    let wrote = original::write(given, buf, call);
+    let accepted = wrote.number == 0;
+    let same = accepted && (plain.0.number == 54 || tail(buf) == plain.2);
+    tally.judge("writes at the limit", same, || {
+        format!("original {wrote:?}")
+    });
+    if plain.0.number == 54 {
+        tally.met(rules::WRITE_LIMIT);
+    }
+}

@@ -1,0 +1,289 @@
+//! Whole lists of calls: reads and seeks on a finished recording against the plain machine, and writing calls from a fresh state.
+
+use crate::calls;
+use crate::files;
+use crate::library;
+use crate::original::{self, Told};
+use crate::plain::{self, Machine, Packet, Read, Walker, Writer};
+use crate::random::Random;
+use crate::tally::{Tally, hex};
+use crate::words::{self, Said, WalkerWords, Write, accepted, refused};
+
+#[derive(Clone, Copy, Debug)]
+enum Call {
+    Read,
+    Seek(u32, i64),
+}
+
+fn calls_for(random: &mut Random, packets: &[(Packet, [u64; 4])]) -> Vec<Call> {
+    let count = random.size(16);
+    (0..count)
+        .map(|_| match random.below(5) {
+            0 | 1 => Call::Read,
+            2 => Call::Seek(random.below(2) as u32, near_a_stamp(random, packets)),
+            3 => Call::Seek(random.below(2) as u32, random.below(6) as i64 - 2),
+            _ => Call::Seek(random.below(3) as u32, random.word() as i64),
+        })
+        .collect()
+}
+
+fn near_a_stamp(random: &mut Random, packets: &[(Packet, [u64; 4])]) -> i64 {
+    if packets.is_empty() {
+        return 0;
+    }
+    let (packet, _) = packets[random.size(packets.len())];
+    packet.stamp as i64 + random.below(3) as i64 - 1
+}
+
+/// One of those that run the list, each with a walker of its own.
+trait Side {
+    fn read(&mut self) -> Said<7>;
+    fn seek(&mut self, stream: u32, request: i64) -> Said<2>;
+    /// Cursor, frames, samples, blocks.
+    fn position(&self) -> [u64; 4];
+}
+
+struct PlainSide<'a> {
+    file: &'a [u8],
+    index: &'a [u8],
+    walker: WalkerWords,
+}
+
+impl Side for PlainSide<'_> {
+    fn read(&mut self) -> Said<7> {
+        words::next_packet(self.file, &mut self.walker)
+    }
+
+    fn seek(&mut self, stream: u32, request: i64) -> Said<2> {
+        words::seek_to_via_index(self.index, &mut self.walker, stream, request)
+    }
+
+    fn position(&self) -> [u64; 4] {
+        self.walker[..4].try_into().unwrap()
+    }
+}
+
+/// The library with the index that the library built.
+struct LibrarySide<'a> {
+    file: &'a [u8],
+    index: Vec<u8>,
+    walker: WalkerWords,
+}
+
+impl Side for LibrarySide<'_> {
+    fn read(&mut self) -> Said<7> {
+        library::next_packet(self.file, &mut self.walker)
+    }
+
+    fn seek(&mut self, stream: u32, request: i64) -> Said<2> {
+        library::seek_to_via_index(&self.index, &mut self.walker, stream, request)
+    }
+
+    fn position(&self) -> [u64; 4] {
+        self.walker[..4].try_into().unwrap()
+    }
+}
+
+struct OriginalSide<'a> {
+    file: original::File,
+    records: &'a [plain::Record],
+    walker: Walker,
+}
+
+impl Side for OriginalSide<'_> {
+    fn read(&mut self) -> Said<7> {
+        match self.file.next_packet(&mut self.walker) {
+            Told::Said(said) => said,
+            _ => refused(u32::MAX, 0),
+        }
+    }
+
+    /// Stream 2 panics in the original: that stands for 42.
+    fn seek(&mut self, stream: u32, request: i64) -> Said<2> {
+        match original::seek(self.records, &mut self.walker, stream, request) {
+            Told::Said(said) => said,
+            Told::Panicked if stream > 1 => refused(42, 0),
+            _ => refused(u32::MAX, 0),
+        }
+    }
+
+    fn position(&self) -> [u64; 4] {
+        let walker = self.walker;
+        [walker.cursor, walker.frames, walker.samples, walker.blocks]
+    }
+}
+
+/// Runs a list of reads and seeks on a finished recording, on each side.
+pub fn reads_and_seeks(tally: &mut Tally, random: &mut Random, file: &[u8]) {
+    let chunks = plain::finished(file).expect("a finished recording");
+    let packets = plain::drain(file, &chunks);
+    let list = calls_for(random, &packets);
+    let records = plain::records(file).unwrap();
+    let index: Vec<u8> = records.iter().flat_map(plain::Record::bytes).collect();
+    let fresh = words::walker_words(&Walker::fresh());
+    let mut plain_side = PlainSide {
+        file,
+        index: &index,
+        walker: fresh,
+    };
+    run(
+        tally,
+        "list on plain",
+        file,
+        &packets,
+        &list,
+        &mut plain_side,
+    );
+    let mut original_side = OriginalSide {
+        file: original::File::new(file),
+        records: &records,
+        walker: Walker::fresh(),
+    };
+    run(
+        tally,
+        "list on original",
+        file,
+        &packets,
+        &list,
+        &mut original_side,
+    );
+    let mut built = vec![0; index.len()];
+    library::build_chunk_index(file, &mut built);
+    let mut library_side = LibrarySide {
+        file,
+        index: built,
+        walker: fresh,
+    };
+    run(
+        tally,
+        "list on library",
+        file,
+        &packets,
+        &list,
+        &mut library_side,
+    );
+}
+
+/// The list on one side against the plain machine: each answer, and what is left after the list.
+fn run(
+    tally: &mut Tally,
+    name: &'static str,
+    file: &[u8],
+    packets: &[(Packet, [u64; 4])],
+    list: &[Call],
+    side: &mut dyn Side,
+) {
+    let mut machine = Machine {
+        packets,
+        position: 0,
+    };
+    for (i, call) in list.iter().enumerate() {
+        let same = step(&mut machine, side, *call);
+        tally.judge(name, same, || {
+            format!("call {i} of {list:?} on {}", hex(file))
+        });
+    }
+    let at = packets.get(machine.position).map(|(_, before)| *before);
+    let placed = at.is_none_or(|before| before == side.position());
+    let left = left_same(&mut machine, side);
+    tally.judge(name, placed && left, || {
+        format!("what is left after {list:?} on {}", hex(file))
+    });
+}
+
+fn step(machine: &mut Machine, side: &mut dyn Side, call: Call) -> bool {
+    match call {
+        Call::Read => side.read() == accepted(&words::read_words(machine.read())),
+        Call::Seek(stream, request) => {
+            let said = side.seek(stream, request);
+            match machine.seek(stream, request) {
+                Err(refusal) => said == refused(refusal.number, refusal.place),
+                Ok(Some(stamp)) => said == accepted(&[stamp]),
+                // The stamp of a seek to the end is not compared.
+                Ok(None) => said.number == 0,
+            }
+        }
+    }
+}
+
+/// Reads until the first End.
+fn left_same(machine: &mut Machine, side: &mut dyn Side) -> bool {
+    loop {
+        let read = machine.read();
+        if side.read() != accepted(&words::read_words(read)) {
+            return false;
+        }
+        if read == Read::End {
+            return true;
+        }
+    }
+}
+
+/// A list of writing calls from a fresh state; if a header and a trailer were accepted, the file is finished and holds the packets
+/// that were accepted.
+pub fn writing_calls(tally: &mut Tally, random: &mut Random) {
+    let settings = plain::Settings {
+        width: random.word32(),
+        height: random.word32(),
+        fps: random.word32().max(1),
+        rate: random.word32(),
+        channels: 1,
+    };
+    let mut writer = words::writer_words(&Writer::fresh(settings));
+    let room = random.pick(&[316, 330, 400, 600, 600, 600]) + random.size(8);
+    let mut buf = random.bytes(room);
+    let mut taken: Vec<(u32, Vec<u8>)> = Vec::new();
+    let (mut header, mut trailer) = (false, false);
+    let in_order = random.once_in(2);
+    let count = 2 + random.size(10);
+    for i in 0..count {
+        let payload = files::payload(random);
+        let stream = if random.once_in(9) {
+            random.word32()
+        } else {
+            random.below(2) as u32
+        };
+        let kind = match i {
+            0 if in_order => 0,
+            _ if in_order && i + 1 == count => 9,
+            _ if in_order => 5,
+            _ => random.below(10),
+        };
+        let call = match kind {
+            0 | 1 => Write::Header,
+            9 => Write::Trailer,
+            _ => Write::Packet(&payload, stream),
+        };
+        let said = calls::write(tally, &mut writer, &mut buf, call);
+        if said.number == 0 {
+            match call {
+                Write::Header => header = true,
+                Write::Trailer => trailer = true,
+                Write::Packet(payload, stream) => taken.push((stream, payload.to_vec())),
+            }
+        }
+    }
+    if header && trailer {
+        let file = &buf[..writer[7] as usize];
+        let finished = calls::check(tally, file);
+        tally.judge(
+            "list of writing calls",
+            finished && holds(file, &taken),
+            || format!("{taken:?} in {}", hex(file)),
+        );
+    }
+}
+
+fn holds(file: &[u8], taken: &[(u32, Vec<u8>)]) -> bool {
+    let chunks = plain::finished(file).unwrap();
+    let packets = plain::drain(file, &chunks);
+    packets.len() == taken.len()
+        && packets
+            .iter()
+            .zip(taken)
+            .all(|((packet, _), (stream, payload))| {
+                let start = packet.start as usize;
+                packet.stream == *stream
+                    && file[start..start + packet.length as usize] == payload[..]
+            })
+}

@@ -1,0 +1,84 @@
+//! Holds the library against the original and against a plain second implementation of document 01, on the same inputs.
+//!
+//!     compare SEED COUNT
+//!
+//! The short inputs run in full, then random rounds until COUNT comparisons are made. Each difference from the original is one of
+//! the rules, which stand in docs/DIFFERENCES.md, or it fails.
+
+mod calls;
+mod files;
+mod large;
+mod library;
+mod lists;
+mod original;
+mod pieces;
+mod plain;
+mod programs;
+mod random;
+mod rules;
+mod suites;
+mod tally;
+mod words;
+
+use std::process::ExitCode;
+use std::time::Instant;
+
+fn main() -> ExitCode {
+    let mut arguments = std::env::args().skip(1);
+    let mut number = |default| {
+        arguments
+            .next()
+            .map_or(default, |word| word.parse().unwrap())
+    };
+    let (seed, count) = (number(1), number(10_000_000));
+    // A panic of the original is an answer, and not to be printed; one of our own still ends the run with its message.
+    let usual = std::panic::take_hook();
+    std::panic::set_hook(Box::new(move |info| {
+        let ours = info
+            .location()
+            .is_some_and(|at| at.file().starts_with("src/"));
+        if ours {
+            usual(info);
+        }
+    }));
+    let started = Instant::now();
+    let mut tally = tally::Tally::default();
+    let mut random = random::Random(seed);
+    suites::exhaustive(&mut tally, &mut random);
+    println!(
+        "{} comparisons of short inputs, {:?}",
+        tally.total(),
+        started.elapsed()
+    );
+    programs::listing(&mut tally, &mut random);
+    programs::ffmpeg(&mut tally);
+    large::suite(&mut tally);
+    while tally.total() < count {
+        suites::round(&mut tally, &mut random);
+    }
+    rules_stand(&mut tally);
+    tally.print();
+    println!("seed {seed}, {:?}", started.elapsed());
+    println!(
+        "{} passed, {} failed",
+        tally.total() - tally.failed(),
+        tally.failed()
+    );
+    if tally.failed() == 0 {
+        ExitCode::SUCCESS
+    } else {
+        ExitCode::FAILURE
+    }
+}
+
+/// Each rule has a row in docs/DIFFERENCES.md and was met; else the list or the inputs are out of date.
+fn rules_stand(tally: &mut tally::Tally) {
+    let list = include_str!("../../docs/DIFFERENCES.md");
+    for rule in rules::ALL {
+        let listed = list.contains(&format!("| {rule} |"));
+        let met = tally.times_met(rule) > 0;
+        tally.judge("rules", listed && met, || {
+            format!("{rule}: listed {listed}, met {met}")
+        });
+    }
+}

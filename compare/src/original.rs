@@ -1,0 +1,500 @@
+//! The original's answers in 01's terms. Its refusals are texts: each is given 01's number by its words, and the place that it
+//! names. A text that names no place says `None`.
+
+use std::cell::RefCell;
+use std::io::{self, Cursor, Seek, SeekFrom};
+use std::panic::{AssertUnwindSafe, catch_unwind};
+use std::rc::Rc;
+
+use original::AmvDemuxerError;
+use original::demuxer::{AmvDemuxer, ChunkIndexEntry, WalkState};
+use original::muxer::{AmvMuxer, MuxState};
+use original::parse::{self, ChunkKind};
+use oxideav_core::{
+    CodecId, CodecParameters, Demuxer, Error, Muxer, Packet, Rational, StreamInfo, TimeBase,
+};
+
+use crate::plain::{Record, Settings, Walker, Writer};
+use crate::words::{Said, Write, accepted, refused};
+
+/// An answer of the original.
+#[derive(Clone, Copy, Debug, PartialEq, Eq)]
+pub enum Told<const N: usize> {
+    Said(Said<N>),
+    /// A refusal that names no place.
+    Number(u32),
+    Panicked,
+}
+
+/// A text that is none of those that are known. No number of 01 is this one, so it never agrees.
+const UNKNOWN_TEXT: u32 = 999;
+
+fn caught<T>(call: impl FnOnce() -> T) -> Option<T> {
+    catch_unwind(AssertUnwindSafe(call)).ok()
+}
+
+fn told<const N: usize, const M: usize>(answer: Result<[u64; M], (u32, Option<u64>)>) -> Told<N> {
+    match answer {
+        Ok(values) => Told::Said(accepted(&values)),
+        Err((number, Some(place))) => Told::Said(refused(number, place)),
+        Err((number, None)) => Told::Number(number),
+    }
+}
+
+/// Number and place for the words of a text. A place of `None` here is one that the text names itself, in hexadecimal after
+/// "at offset" or in decimal after "#".
+const TEXTS: [(&str, u32, Option<u64>); 30] = [
+    ("slice too short for", 11, None),
+    ("expected FOURCC", 12, None),
+    ("amvh body length must be", 13, Some(28)),
+    ("video strh body length must be", 13, Some(104)),
+    ("video strf body length must be", 13, Some(168)),
+    ("audio strh body length must be", 13, Some(224)),
+    ("audio strf body length must be", 13, Some(280)),
+    ("prelude slice shorter than amvh body", 11, Some(32)),
+    ("prelude slice shorter than audio strf body", 11, Some(284)),
+    ("fps must be > 0", 14, Some(72)),
+    ("dwMicroSecPerFrame=", 15, Some(32)),
+    ("amvh +0x2C", 16, Some(76)),
+    ("amvh +0x30", 17, Some(80)),
+    ("expected all-zero", 18, None),
+    ("audio strf +0x00", 19, Some(284)),
+    ("audio strf +0x02", 20, Some(286)),
+    ("audio strf +0x08", 21, Some(292)),
+    ("audio strf +0x0C", 22, Some(296)),
+    ("audio strf +0x0E", 23, Some(298)),
+    ("audio strf +0x10", 24, Some(300)),
+    ("unexpected chunk tag", 31, None),
+    ("got video (00dc)", 62, None),
+    ("got audio (01wb)", 63, None),
+    ("must be 00dc or 01wb", 64, None),
+    ("chunk count must be even", 65, None),
+    ("amvh body must be", 28, Some(0)),
+    ("audio strf body must be at least", 27, Some(0)),
+    ("chunk header needs", 29, Some(0)),
+    ("01wb payload preamble needs", 25, Some(0)),
+    ("decoded_sample_count must be > 0", 26, Some(0)),
+];
+
+fn number_of(text: &str) -> (u32, Option<u64>) {
+    for (words, number, place) in TEXTS {
+        if text.contains(words) {
+            return (number, place.or_else(|| named_place(text)));
+        }
+    }
+    (UNKNOWN_TEXT, None)
+}
+
+fn named_place(text: &str) -> Option<u64> {
+    if let Some((_, hex)) = text.rsplit_once("at offset 0x") {
+        return u64::from_str_radix(hex, 16).ok();
+    }
+    let (_, rest) = text.rsplit_once('#')?;
+    let digits = rest.split(|c: char| !c.is_ascii_digit()).next()?;
+    digits.parse().ok()
+}
+
+fn number_of_error(error: AmvDemuxerError) -> (u32, Option<u64>) {
+    match error {
+        AmvDemuxerError::InvalidData(text) => number_of(&text),
+        _ => (UNKNOWN_TEXT, None),
+    }
+}
+
+pub fn parse(file: &[u8], strict: bool) -> Told<16> {
+    let parsed = caught(|| parse::parse_prelude(file, strict).map_err(number_of_error));
+    let Some(parsed) = parsed else {
+        return Told::Panicked;
+    };
+    told(parsed.map(|(header, wave, start)| {
+        [
+            header.micros_per_frame as u64,
+            header.width as u64,
+            header.height as u64,
+            header.fps as u64,
+            header.flag_one as u64,
+            header.reserved_30 as u64,
+            header.duration_packed as u64,
+            wave.format_tag as u64,
+            wave.channels as u64,
+            wave.samples_per_sec as u64,
+            wave.avg_bytes_per_sec as u64,
+            wave.block_align as u64,
+            wave.bits_per_sample as u64,
+            wave.cb_size as u64,
+            start,
+        ]
+    }))
+}
+
+pub fn header(body: &[u8]) -> Told<8> {
+    let parsed = parse::AmvHeader::parse(body).map_err(number_of_error);
+    told(parsed.map(|header| {
+        [
+            header.micros_per_frame as u64,
+            header.width as u64,
+            header.height as u64,
+            header.fps as u64,
+            header.flag_one as u64,
+            header.reserved_30 as u64,
+            header.duration_packed as u64,
+        ]
+    }))
+}
+
+pub fn wave(body: &[u8]) -> Told<8> {
+    let parsed = parse::AmvWaveFormat::parse(body).map_err(number_of_error);
+    told(parsed.map(|wave| {
+        [
+            wave.format_tag as u64,
+            wave.channels as u64,
+            wave.samples_per_sec as u64,
+            wave.avg_bytes_per_sec as u64,
+            wave.block_align as u64,
+            wave.bits_per_sample as u64,
+            wave.cb_size as u64,
+        ]
+    }))
+}
+
+/// Tag and length.
+pub fn chunk_header(bytes: &[u8]) -> Told<3> {
+    let parsed = parse::ChunkHeader::parse(bytes).map_err(number_of_error);
+    told(parsed.map(|header| [u32::from_le_bytes(header.tag) as u64, header.size as u64]))
+}
+
+/// State, count, and the number of the refusal of `validate_sentinels`, or 0.
+pub fn preamble(body: &[u8]) -> Told<4> {
+    let parsed = parse::AmvAudioPreamble::parse(body).map_err(number_of_error);
+    told(parsed.map(|preamble| {
+        let sentinels = preamble.validate_sentinels().map_err(number_of_error);
+        [
+            preamble.state as u64,
+            preamble.decoded_sample_count as u64,
+            sentinels.map_or_else(|(number, _)| number as u64, |()| 0),
+        ]
+    }))
+}
+
+pub fn validate_movi_interleave(tags: &[u32]) -> Told<1> {
+    let kinds: Vec<ChunkKind> = tags.iter().map(|tag| kind_of(*tag)).collect();
+    told(
+        parse::validate_movi_interleave(&kinds)
+            .map(|()| [])
+            .map_err(number_of_error),
+    )
+}
+
+fn kind_of(tag: u32) -> ChunkKind {
+    ChunkKind::classify(tag.to_le_bytes())
+}
+
+fn tag_of(kind: ChunkKind) -> u32 {
+    u32::from_le_bytes(match kind {
+        ChunkKind::Video => parse::VIDEO_CHUNK_TAG,
+        ChunkKind::Audio => parse::AUDIO_CHUNK_TAG,
+        ChunkKind::Other(tag) => tag,
+    })
+}
+
+pub fn from_frame_count(frames: u64, fps: u32) -> u32 {
+    parse::AmvDuration::from_frame_count(frames, fps).to_packed()
+}
+
+/// The demuxer over one file.
+pub struct File {
+    bytes: Rc<[u8]>,
+    demuxer: AmvDemuxer,
+}
+
+fn state_of(walker: &Walker) -> WalkState {
+    WalkState {
+        cursor: walker.cursor,
+        frames: walker.frames as i64,
+        samples: walker.samples as i64,
+        blocks: walker.blocks,
+        end: walker.end,
+        cut: walker.cut,
+        trailer: walker.trailer,
+    }
+}
+
+fn walker_of(state: WalkState) -> Walker {
+    Walker {
+        cursor: state.cursor,
+        frames: state.frames as u64,
+        samples: state.samples as u64,
+        blocks: state.blocks,
+        end: state.end,
+        cut: state.cut,
+        trailer: state.trailer,
+    }
+}
+
+impl File {
+    pub fn new(bytes: &[u8]) -> Self {
+        let bytes: Rc<[u8]> = bytes.into();
+        let demuxer = AmvDemuxer::over(Box::new(Cursor::new(bytes.clone())));
+        Self { bytes, demuxer }
+    }
+
+    /// The words of a read: packet or End, stream, start, length, stamp, duration.
+    pub fn next_packet(&mut self, walker: &mut Walker) -> Told<7> {
+        self.demuxer.set_state(state_of(walker));
+        let start = walker.cursor.wrapping_add(8);
+        let answer = self.demuxer.next_packet();
+        *walker = walker_of(self.demuxer.state());
+        match answer {
+            Err(Error::Eof) => Told::Said(accepted(&[0; 6])),
+            Err(Error::Invalid(text)) => told::<7, 0>(Err(number_of(&text))),
+            Err(Error::Other(_)) => Told::Number(UNKNOWN_TEXT),
+            Ok(packet) => Told::Said(accepted(&self.packet_words(&packet, start))),
+        }
+    }
+
+    /// A packet holds a copy of its payload, and three things more: the decode stamp, which is the stamp; the key-frame flag, which
+    /// is set; and a time base. Where the copy or one of the first two is otherwise, the length is made one that never agrees.
+    fn packet_words(&self, packet: &Packet, start: u64) -> [u64; 6] {
+        let end = start as usize + packet.data.len();
+        let same = self.bytes.get(start as usize..end) == Some(&packet.data[..]);
+        let usual = packet.dts == packet.pts && packet.flags.keyframe;
+        [
+            1,
+            packet.stream_index as u64,
+            start,
+            if same && usual {
+                packet.data.len() as u64
+            } else {
+                u64::MAX
+            },
+            packet.pts.map_or(u64::MAX, |stamp| stamp as u64),
+            packet.duration.map_or(0, |duration| duration as u64),
+        ]
+    }
+
+    /// The records, or the refusal.
+    pub fn records(&mut self) -> Result<Vec<Record>, Told<2>> {
+        self.demuxer
+            .build_chunk_index()
+            .map_err(|error| told::<2, 0>(Err(number_of_error(error))))?;
+        let index = self.demuxer.chunk_index().unwrap();
+        Ok(index.iter().map(record_of).collect())
+    }
+}
+
+fn record_of(entry: &ChunkIndexEntry) -> Record {
+    Record {
+        tag: tag_of(entry.kind),
+        offset: entry.file_offset as u32,
+        frames: entry.video_pts_before as u32,
+        blocks: entry.audio_blocks_before as u32,
+        samples: entry.audio_pts_before as u64,
+    }
+}
+
+fn entry_of(record: &Record) -> ChunkIndexEntry {
+    ChunkIndexEntry::new(
+        record.offset as u64,
+        kind_of(record.tag),
+        record.frames as i64,
+        record.samples as i64,
+        record.blocks as u64,
+    )
+}
+
+/// The private seek over the records.
+pub fn seek(records: &[Record], walker: &mut Walker, stream: u32, request: i64) -> Told<2> {
+    let mut demuxer = AmvDemuxer::over(Box::new(Cursor::new([])));
+    demuxer.set_index(records.iter().map(entry_of).collect());
+    demuxer.set_state(state_of(walker));
+    let answer = caught(|| demuxer.seek_by_index(stream, request));
+    *walker = walker_of(demuxer.state());
+    match answer {
+        Some(Ok(stamp)) => Told::Said(accepted(&[stamp as u64])),
+        Some(Err(_)) => Told::Number(UNKNOWN_TEXT),
+        None => Told::Panicked,
+    }
+}
+
+/// The public seek over the records. Its refusals have no number in 01: 42 stands for a stream that it does not know, and
+/// `NEGATIVE` for a request below 0.
+pub fn public_seek(records: &[Record], walker: &mut Walker, stream: u32, request: i64) -> Told<2> {
+    let mut demuxer = AmvDemuxer::over(Box::new(Cursor::new([])));
+    demuxer.set_index(records.iter().map(entry_of).collect());
+    demuxer.set_state(state_of(walker));
+    let answer = demuxer.seek_to(stream, request);
+    *walker = walker_of(demuxer.state());
+    match answer {
+        Ok(stamp) => Told::Said(accepted(&[stamp as u64])),
+        Err(Error::Invalid(text)) if text.contains("must be non-negative") => {
+            Told::Number(NEGATIVE)
+        }
+        Err(Error::Invalid(text)) if text.contains("stream_index must be 0") => Told::Number(42),
+        Err(_) => Told::Number(UNKNOWN_TEXT),
+    }
+}
+
+pub const NEGATIVE: u32 = 998;
+
+/// A buffer of fixed length as a writer. It is shared, so that its bytes can be seen when the muxer that held it is gone.
+struct Lent {
+    bytes: Rc<RefCell<Vec<u8>>>,
+    position: u64,
+    /// Where the file ends: `SeekFrom::End` counts from there.
+    end: u64,
+}
+
+impl io::Write for Lent {
+    fn write(&mut self, data: &[u8]) -> io::Result<usize> {
+        let mut bytes = self.bytes.borrow_mut();
+        let from = usize::try_from(self.position)
+            .unwrap_or(usize::MAX)
+            .min(bytes.len());
+        let written = (&mut bytes[from..]).write(data)?;
+        self.position = self.position.saturating_add(written as u64);
+        self.end = self.end.max(self.position);
+        Ok(written)
+    }
+
+    fn flush(&mut self) -> io::Result<()> {
+        Ok(())
+    }
+}
+
+impl Seek for Lent {
+    fn seek(&mut self, to: SeekFrom) -> io::Result<u64> {
+        self.position = match to {
+            SeekFrom::Start(at) => at,
+            SeekFrom::End(by) => self.end.wrapping_add_signed(by),
+            SeekFrom::Current(by) => self.position.wrapping_add_signed(by),
+        };
+        Ok(self.position)
+    }
+}
+
+/// What a writing call of the original says and leaves. It keeps no ended mark and no count of bytes; `position` is where its
+/// writer stands.
+#[derive(Clone, Copy, Debug, PartialEq, Eq)]
+pub struct Wrote {
+    pub number: u32,
+    pub begun: bool,
+    pub frames: u64,
+    pub position: u64,
+}
+
+const WRITER_TEXTS: [(&str, u32); 5] = [
+    ("write_header called twice", 50),
+    ("called before write_header", 51),
+    ("chunk size exceeds 4 GiB", 52),
+    ("stream_index must be 0", 53),
+    ("amv: write ", 54),
+];
+
+fn writer_number(error: &Error) -> u32 {
+    let (Error::Invalid(text) | Error::Other(text)) = error else {
+        return UNKNOWN_TEXT;
+    };
+    WRITER_TEXTS
+        .iter()
+        .find(|(words, _)| text.contains(words))
+        .map_or(UNKNOWN_TEXT, |(_, number)| *number)
+}
+
+fn mux_state(writer: &Writer) -> MuxState {
+    let settings = writer.settings;
+    MuxState {
+        width: settings.width,
+        height: settings.height,
+        fps: settings.fps,
+        rate: settings.rate,
+        channels: settings.channels,
+        begun: writer.begun,
+        frames: writer.frames,
+    }
+}
+
+/// A writing call on a muxer whose writer stands at `written` in the buffer.
+pub fn write(writer: &Writer, buf: &mut Vec<u8>, call: Write) -> Wrote {
+    let bytes = Rc::new(RefCell::new(std::mem::take(buf)));
+    // The muxer keeps its writer to itself, so the writer's position is told by a second one that shares it.
+    let lent = Rc::new(RefCell::new(Lent {
+        bytes: bytes.clone(),
+        position: writer.written,
+        end: writer.written,
+    }));
+    let mut muxer = AmvMuxer::over(Box::new(Shared(lent.clone())), mux_state(writer));
+    let answer = match call {
+        Write::Header => muxer.write_header(),
+        Write::Packet(payload, stream) => {
+            let time = TimeBase::new(1, 1);
+            muxer.write_packet(&Packet::new(stream, time, payload.to_vec()))
+        }
+        Write::Trailer => muxer.write_trailer(),
+    };
+    let state = muxer.state();
+    *buf = bytes.take();
+    Wrote {
+        number: answer.map_or_else(|error| writer_number(&error), |()| 0),
+        begun: state.begun,
+        frames: state.frames,
+        position: lent.borrow().position,
+    }
+}
+
+struct Shared(Rc<RefCell<Lent>>);
+
+impl io::Write for Shared {
+    fn write(&mut self, data: &[u8]) -> io::Result<usize> {
+        self.0.borrow_mut().write(data)
+    }
+
+    fn flush(&mut self) -> io::Result<()> {
+        Ok(())
+    }
+}
+
+impl Seek for Shared {
+    fn seek(&mut self, to: SeekFrom) -> io::Result<u64> {
+        self.0.borrow_mut().seek(to)
+    }
+}
+
+pub fn prelude_bytes(writer: &Writer, duration: u32) -> Vec<u8> {
+    original::muxer::prelude_bytes(mux_state(writer), duration)
+}
+
+/// The number that a begun muxer gives to a frame with that payload, which goes by value because it may be very long.
+pub fn write_by_value(payload: Vec<u8>) -> u32 {
+    let mut writer = Writer::fresh(crate::files::EXAMPLE_SETTINGS);
+    writer.begun = true;
+    let mut muxer = AmvMuxer::over(Box::new(Cursor::new(Vec::new())), mux_state(&writer));
+    let answer = muxer.write_packet(&Packet::new(0, TimeBase::new(1, 1), payload));
+    answer.map_or_else(|error| writer_number(&error), |()| 0)
+}
+
+/// The records of a file that goes by value.
+pub fn records_by_value(file: Vec<u8>) -> Option<Vec<Record>> {
+    let mut demuxer = AmvDemuxer::over(Box::new(Cursor::new(file)));
+    demuxer.build_chunk_index().ok()?;
+    Some(demuxer.chunk_index()?.iter().map(record_of).collect())
+}
+
+/// Whether `open` takes the settings.
+pub fn opens(settings: &Settings) -> bool {
+    let stream = |index, params| StreamInfo {
+        index,
+        time_base: TimeBase::new(1, 1),
+        duration: None,
+        start_time: None,
+        params,
+    };
+    let mut video = CodecParameters::video(CodecId::new("video"));
+    video.width = Some(settings.width);
+    video.height = Some(settings.height);
+    video.frame_rate = Some(Rational::new(settings.fps as i64, 1));
+    let mut audio = CodecParameters::audio(CodecId::new("audio"));
+    audio.sample_rate = Some(settings.rate);
+    audio.channels = Some(settings.channels);
+    let writer = Box::new(Cursor::new(Vec::new()));
+    AmvMuxer::open(writer, &[stream(0, video), stream(1, audio)]).is_ok()
+}

@@ -1,0 +1,204 @@
+//! The known differences. Each rule has the name of its row in docs/DIFFERENCES.md, says when it applies, and says what the original
+//! then answers instead: a difference that the rule does not predict exactly fails.
+
+use crate::original::{NEGATIVE, Told, Wrote};
+use crate::plain::{self, Refusal, Settings, Walker, Writer};
+use crate::words::{Said, Write, accepted, read_words, refused};
+
+pub const CUT_SIZE: &str = "a tag that is there, its size cut";
+pub const FILE_LIMIT: &str = "length of a file";
+pub const WALKER_RANGE: &str = "walker out of range";
+pub const TABLE_ROOM: &str = "table too short for the index";
+pub const TABLE_LENGTH: &str = "a table that is no whole number of records";
+pub const STREAM: &str = "stream 2 in the indexed seek";
+pub const RECORDS: &str = "records of an unknown kind, or with 2^62 samples or more";
+pub const STATE_WORDS: &str = "state words out of their field's range";
+pub const FAILED_WRITE: &str = "a write that fails";
+pub const AFTER_TRAILER: &str = "a packet or trailer after the trailer";
+pub const BEGUN_SHORT: &str = "begun with fewer than 316 bytes written";
+pub const WRITE_LIMIT: &str = "a write that ends past the file limit";
+pub const NEGATIVE_REQUESTS: &str = "negative requests";
+pub const OPEN: &str = "zero width, height, fps or rate, other channel counts";
+
+/// All of them, so that the driver can tell which were never met and which stand in no row.
+pub const ALL: [&str; 14] = [
+    CUT_SIZE,
+    FILE_LIMIT,
+    WALKER_RANGE,
+    TABLE_ROOM,
+    TABLE_LENGTH,
+    STREAM,
+    RECORDS,
+    STATE_WORDS,
+    FAILED_WRITE,
+    AFTER_TRAILER,
+    BEGUN_SHORT,
+    WRITE_LIMIT,
+    NEGATIVE_REQUESTS,
+    OPEN,
+];
+
+/// What the original is expected to answer.
+pub struct Expected<T> {
+    pub rule: Option<&'static str>,
+    /// None where the original cannot be asked.
+    pub answer: Option<T>,
+}
+
+impl<T> Expected<T> {
+    pub fn same(answer: T) -> Self {
+        Self {
+            rule: None,
+            answer: Some(answer),
+        }
+    }
+
+    fn by(rule: &'static str, answer: T) -> Self {
+        Self {
+            rule: Some(rule),
+            answer: Some(answer),
+        }
+    }
+
+    fn unasked(rule: &'static str) -> Self {
+        Self {
+            rule: Some(rule),
+            answer: None,
+        }
+    }
+}
+
+/// Offsets of the five sizes.
+const SIZES: [u64; 5] = [28, 104, 168, 224, 280];
+
+pub fn parse(plain: Said<16>) -> Expected<Told<16>> {
+    if plain.number == 11 && SIZES.contains(&plain.out[0]) {
+        return Expected::by(CUT_SIZE, Told::Panicked);
+    }
+    Expected::same(Told::Said(plain))
+}
+
+/// Answer and walker of a read.
+pub fn next_packet(
+    file: &[u8],
+    given: Option<Walker>,
+    plain: Said<7>,
+    left: Option<Walker>,
+) -> Expected<(Told<7>, Walker)> {
+    let (Some(mut walker), Some(left)) = (given, left) else {
+        return Expected::unasked(STATE_WORDS);
+    };
+    if plain.number != 32 {
+        return Expected::same((Told::Said(plain), left));
+    }
+    let said = match plain::read_on(file, &mut walker) {
+        Ok(read) => accepted(&read_words(read)),
+        Err(Refusal { number, place }) => refused(number, place),
+    };
+    Expected::by(WALKER_RANGE, (Told::Said(said), walker))
+}
+
+/// Answer and walker of a seek.
+pub fn seek(
+    table: &[u8],
+    given: Option<Walker>,
+    stream: u32,
+    request: i64,
+    plain: Said<2>,
+    left: Option<Walker>,
+) -> Expected<(Told<2>, Walker)> {
+    let (Some(mut walker), Some(left)) = (given, left) else {
+        return Expected::unasked(STATE_WORDS);
+    };
+    let rule = match plain.number {
+        41 => return Expected::unasked(TABLE_LENGTH),
+        42 => return Expected::by(STREAM, (Told::Panicked, walker)),
+        43 => RECORDS,
+        32 => WALKER_RANGE,
+        _ => return Expected::same((Told::Said(plain), left)),
+    };
+    let stamp = plain::jump(&plain::read_table(table), &mut walker, stream, request);
+    Expected::by(rule, (Told::Said(accepted(&[stamp])), walker))
+}
+
+/// Answer and walker of the public seek: it refuses what the private one takes or panics at, and then changes nothing.
+pub fn public_seek(
+    stream: u32,
+    request: i64,
+    walker: Walker,
+    private: (Told<2>, Walker),
+) -> Expected<(Told<2>, Walker)> {
+    if request < 0 {
+        Expected::by(NEGATIVE_REQUESTS, (Told::Number(NEGATIVE), walker))
+    } else if stream > 1 {
+        Expected::same((Told::Number(42), walker))
+    } else {
+        Expected::same(private)
+    }
+}
+
+/// Whether `open` takes the settings: 01's writer takes all.
+pub fn opens(settings: &Settings) -> Expected<bool> {
+    let zero = [settings.width, settings.height, settings.fps, settings.rate].contains(&0);
+    if zero || settings.channels != 1 {
+        Expected::by(OPEN, false)
+    } else {
+        Expected::same(true)
+    }
+}
+
+/// What a writing call says and leaves, with the buffer's bytes after it. `given` and `buf` are those before the call.
+pub fn write(given: &Writer, buf: &[u8], call: Write) -> Expected<(Wrote, Vec<u8>)> {
+    let mut writer = *given;
+    let mut bytes = buf.to_vec();
+    let answer = crate::words::write_plain(&mut writer, &mut bytes, call);
+    let number = answer.map_or_else(|refusal| refusal.number, |()| 0);
+    let wrote = Wrote {
+        number,
+        begun: writer.begun,
+        frames: writer.frames,
+        position: writer.written,
+    };
+    match number {
+        55 => {
+            // There is no ended mark: the call goes on as if it were clear.
+            let unended = Writer {
+                ended: false,
+                ..*given
+            };
+            let expected = write(&unended, buf, call);
+            Expected {
+                rule: expected.rule.or(Some(AFTER_TRAILER)),
+                answer: expected.answer,
+            }
+        }
+        56 => Expected::unasked(BEGUN_SHORT),
+        54 => Expected::by(FAILED_WRITE, failed_write(given, buf, call)),
+        _ => Expected::same((wrote, bytes)),
+    }
+}
+
+/// The frame counts, and what fits is written.
+fn failed_write(given: &Writer, buf: &[u8], call: Write) -> (Wrote, Vec<u8>) {
+    let (at, text) = match call {
+        Write::Header => (0, plain::build_prelude(given.settings, 0).to_vec()),
+        Write::Packet(payload, stream) => (
+            given.written,
+            [&plain::packet_head(payload, stream), payload].concat(),
+        ),
+        Write::Trailer => (given.written, plain::TRAILER.to_vec()),
+    };
+    let mut bytes = buf.to_vec();
+    let fits = (buf.len() as u64).saturating_sub(at).min(text.len() as u64);
+    if fits > 0 {
+        bytes[at as usize..(at + fits) as usize].copy_from_slice(&text[..fits as usize]);
+    }
+    let frame = matches!(call, Write::Packet(_, 0));
+    let wrote = Wrote {
+        number: 54,
+        begun: given.begun,
+        frames: given.frames.saturating_add(frame as u64),
+        position: at + fits,
+    };
+    (wrote, bytes)
+}
