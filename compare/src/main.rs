@@ -1,9 +1,10 @@
 //! Holds the library against the original and against a plain second implementation of document 01, on the same inputs.
 //!
 //!     compare SEED COUNT
+//!     compare vectors FOLDER
 //!
 //! The short inputs run in full, then random rounds until COUNT comparisons are made. Each difference from the original is one of
-//! the rules, which stand in docs/DIFFERENCES.md, or it fails.
+//! the rules, which stand in docs/DIFFERENCES.md, or it fails. The second form stores answers of the original for the program `vectors`.
 
 mod calls;
 mod files;
@@ -18,12 +19,20 @@ mod random;
 mod rules;
 mod suites;
 mod tally;
+mod vectors;
 mod words;
 
 use std::process::ExitCode;
 use std::time::Instant;
 
 fn main() -> ExitCode {
+    if let [_, mode, folder] = &std::env::args().collect::<Vec<_>>()[..] {
+        if mode == "vectors" {
+            quiet_panics();
+            vectors::store(folder.as_ref());
+            return ExitCode::SUCCESS;
+        }
+    }
     let mut arguments = std::env::args().skip(1);
     let mut number = |default| {
         arguments
@@ -31,16 +40,7 @@ fn main() -> ExitCode {
             .map_or(default, |word| word.parse().unwrap())
     };
     let (seed, count) = (number(1), number(10_000_000));
-    // A panic of the original is an answer, and not to be printed; one of our own still ends the run with its message.
-    let usual = std::panic::take_hook();
-    std::panic::set_hook(Box::new(move |info| {
-        let ours = info
-            .location()
-            .is_some_and(|at| at.file().starts_with("src/"));
-        if ours {
-            usual(info);
-        }
-    }));
+    quiet_panics();
     let started = Instant::now();
     let mut tally = tally::Tally::default();
     let mut random = random::Random(seed);
@@ -69,6 +69,19 @@ fn main() -> ExitCode {
     } else {
         ExitCode::FAILURE
     }
+}
+
+/// A panic of the original is an answer, and not to be printed; one of our own still ends the run with its message.
+fn quiet_panics() {
+    let usual = std::panic::take_hook();
+    std::panic::set_hook(Box::new(move |info| {
+        let ours = info
+            .location()
+            .is_some_and(|at| at.file().starts_with("src/"));
+        if ours {
+            usual(info);
+        }
+    }));
 }
 
 /// Each rule has a row in docs/DIFFERENCES.md and was met; else the list or the inputs are out of date.
