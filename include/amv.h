@@ -26,8 +26,8 @@
 extern "C" {
 #endif
 
-/* A walker is where a reader stands. Seven words: cursor, frames, samples, blocks (all that stand before the cursor), end (0 or 1), cut
- * (0 or 1: the file ended inside a chunk), and the offset of the trailer, or UINT64_MAX where it was not met. A reader starts with
+/* A walker is where a reader stands. Seven words: cursor, frames, samples, blocks (those that stand before the cursor), end (0 or 1), cut
+ * (0 or 1: the file ends before its trailer), and the offset of the trailer, or UINT64_MAX where it was not met. A reader starts with
  *
  *     uint64_t walker[7] = AMV_FRESH_WALKER;
  *
@@ -40,7 +40,8 @@ extern "C" {
  *     uint64_t writer[9] = AMV_FRESH_WRITER(width, height, fps, rate, channels);
  *
  * and hands the same nine words to each call. The file is the first writer[7] bytes of the buffer. */
-#define AMV_FRESH_WRITER(width, height, fps, rate, channels) { (width), (height), (fps), (rate), (channels), 0, 0, 0, 0 }
+#define AMV_FRESH_WRITER(width, height, fps, rate, channels) \
+    { (uint64_t)(width), (uint64_t)(height), (uint64_t)(fps), (uint64_t)(rate), (uint64_t)(channels), 0, 0, 0, 0 }
 
 /* The 316 bytes at the start of a file. Without strict only the layout is asked for, 10 to 13; with strict every field that a device
  * fixes, 14 to 24, too. out: place, microseconds a frame, width, height, fps, flag, reserved, run length (packed: seconds, minutes
@@ -49,8 +50,8 @@ uint32_t amv_parse(const uint8_t *file, size_t len, bool strict, uint64_t out[16
 
 /* The packet at the walker's cursor, and the walker past it. out: place, 1 for a packet or 0 for End, stream (0 picture, 1 sound), offset
  * and length of the payload in the file, stamp, duration (0: none). On End every word of out is 0 and the walker's end is 1; its cut is
- * 1 once a read has found the file to end inside a chunk, and it has the trailer's offset once a read has met the trailer. Refuses with
- * 1, 10, 32 and 31. */
+ * 1 once a read has found that the file ends, at a chunk or inside one, before its trailer, and it has the trailer's offset once a read
+ * has met the trailer. Refuses with 1, 10, 32 and 31. */
 uint32_t amv_next_packet(const uint8_t *file, size_t len, uint64_t walker[7], uint64_t out[7]);
 
 /* The index of a file, a record of 24 bytes for each chunk, into a table: tag (4 bytes), offset (4), frames before (4), blocks before

@@ -142,6 +142,8 @@ file-through w buf (c ∷ cs) h =
 pub through-words : ThroughWords
 through-words =
     record {
+      fresh-walker = refl;
+      fresh-writer = λ s. refl;
       walkers = λ file table calls. walkers-through file table demuxer.fresh calls refl;
       writers = λ s buf calls h. (accepted-through (muxer.fresh s) buf calls h, file-through (muxer.fresh s) buf calls h);
     }

@@ -40,6 +40,10 @@ fileThrough ws buf (c ∷ cs) = fileThrough (writerAfter (step buf c) ws) (buffe
 -- words that spell the walker of 01's list: so each call of a list answers as 01's does. From a fresh writer's words, of settings that
 -- their fields hold, every list of writing calls has the same calls accepted, and leaves the same file.
 pub record ThroughWords : Type 0 where
+  -- the words of fresh states, as a caller in C writes them
+  pub fresh-walker : walkerWords demuxer.fresh ≡ 316 ∷ 0 ∷ 0 ∷ 0 ∷ 0 ∷ 0 ∷ 18446744073709551615 ∷ []
+  pub fresh-writer : (s : Settings)
+      → writerWords (muxer.fresh s) ≡ s .width ∷ s .height ∷ s .fps ∷ s .rate ∷ s .channels ∷ 0 ∷ 0 ∷ 0 ∷ 0 ∷ []
   pub walkers : (file table : List ℕ) (calls : List Call)
       → walkerOf (walkerAfterAll file table (walkerWords demuxer.fresh) calls) ≡ accepted (after file table demuxer.fresh calls)
   pub writers : (s : Settings) (buf : List ℕ) (calls : List WriteCall) → settingsLegal (writerWords (muxer.fresh s)) ≡ true

@@ -38,7 +38,7 @@ fn put_digits(digits: &mut [u8], n: u64) -> usize
 }
 
 // A number has a space before it.
-fn put_number(out: &mut [u8], off: usize, n: u64) -> usize
+pub fn put_number(out: &mut [u8], off: usize, n: u64) -> usize
     requires { ⌜ off + 21 ≤ length (now out) ⌝ }
     ensures { λ r. ⌜ Written (now (out .entry)) off (32 ∷ decimal n) (now (out .exit)) r ⌝ }
     ensures { λ r. ⌜ r ≤ off + 21 ⌝ }
