@@ -11,53 +11,10 @@ pub struct Side {
     pub write: fn(&mut [u8], usize, &[u8]) -> u64,
 }
 
-mod c {
-    unsafe extern "C" {
-        pub fn amv_next_packet(
-            file: *const u8,
-            len: usize,
-            walker: &mut [u64; 7],
-            out: &mut [u64; 7],
-        ) -> u32;
-        pub fn amv_build_chunk_index(
-            file: *const u8,
-            len: usize,
-            table: *mut u8,
-            table_len: usize,
-            out: &mut [u64; 2],
-        ) -> u32;
-        pub fn amv_seek_to_via_index(
-            table: *const u8,
-            table_len: usize,
-            walker: &mut [u64; 7],
-            stream: u32,
-            request: i64,
-            out: &mut [u64; 2],
-        ) -> u32;
-        pub fn amv_check(file: *const u8, len: usize, out: &mut [u64; 6]) -> u32;
-        pub fn amv_write_header(
-            writer: &mut [u64; 9],
-            buf: *mut u8,
-            len: usize,
-            out: &mut [u64; 1],
-        ) -> u32;
-        pub fn amv_write_packet(
-            writer: &mut [u64; 9],
-            buf: *mut u8,
-            len: usize,
-            payload: *const u8,
-            payload_len: usize,
-            stream: u32,
-            out: &mut [u64; 1],
-        ) -> u32;
-        pub fn amv_write_trailer(
-            writer: &mut [u64; 9],
-            buf: *mut u8,
-            len: usize,
-            out: &mut [u64; 1],
-        ) -> u32;
-    }
-}
+// The library's calls are declared once, for the comparison; four of them are not timed.
+#[allow(dead_code)]
+#[path = "../../compare/src/c.rs"]
+mod c;
 
 /// So many seeks in a run, to frames spread over the table.
 pub const SEEKS: i64 = 64;

@@ -280,15 +280,10 @@ fn drain_totals(file: &[u8], chunks: &[plain::Chunk]) -> Said<6> {
 }
 
 /// A writing call. State and buffer become those that the plain implementation leaves.
-pub fn write(
-    tally: &mut Tally,
-    writer: &mut WriterWords,
-    buf: &mut Vec<u8>,
-    call: Write,
-) -> Said<1> {
+pub fn write(tally: &mut Tally, writer: &mut WriterWords, buf: &mut [u8], call: Write) -> Said<1> {
     let given = *writer;
     let mut lent = Guarded::new(buf);
-    let mut original_buf = buf.clone();
+    let mut original_buf = buf.to_vec();
     let expected = match words::writer_of(&given) {
         None => Expected {
             rule: Some(rules::STATE_WORDS),

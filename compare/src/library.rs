@@ -3,60 +3,23 @@
 //! `out` and a state stand between guard words, and `out` is filled with a pattern first, so a word that is not written, or one
 //! written beside them, is seen. Buffers of length 0 go as NULL, which the interface allows.
 
+use crate::c;
 use crate::words::{Said, WalkerWords, Write, WriterWords};
-
-mod c {
-    unsafe extern "C" {
-        pub fn amv_parse(file: *const u8, len: usize, strict: bool, out: *mut u64) -> u32;
-        pub fn amv_next_packet(file: *const u8, len: usize, walker: *mut u64, out: *mut u64)
-        -> u32;
-        pub fn amv_build_chunk_index(
-            file: *const u8,
-            len: usize,
-            table: *mut u8,
-            table_len: usize,
-            out: *mut u64,
-        ) -> u32;
-        pub fn amv_seek_to_via_index(
-            table: *const u8,
-            table_len: usize,
-            walker: *mut u64,
-            stream: u32,
-            request: i64,
-            out: *mut u64,
-        ) -> u32;
-        pub fn amv_summary(file: *const u8, len: usize, out: *mut u64) -> u32;
-        pub fn amv_check(file: *const u8, len: usize, out: *mut u64) -> u32;
-        pub fn amv_write_header(writer: *mut u64, buf: *mut u8, len: usize, out: *mut u64) -> u32;
-        pub fn amv_write_packet(
-            writer: *mut u64,
-            buf: *mut u8,
-            len: usize,
-            payload: *const u8,
-            payload_len: usize,
-            stream: u32,
-            out: *mut u64,
-        ) -> u32;
-        pub fn amv_write_trailer(writer: *mut u64, buf: *mut u8, len: usize, out: *mut u64) -> u32;
-        pub fn amv_validate_movi_interleave(tags: *const u32, count: usize, out: *mut u64) -> u32;
-        pub fn amv_from_frame_count(frames: u64, fps: u32) -> u32;
-    }
-}
 
 const PATTERN: u64 = 0xa5a5_a5a5_a5a5_a5a5;
 
 /// N words between two guards.
-fn guarded<const N: usize, T>(words: &mut [u64; N], call: impl FnOnce(*mut u64) -> T) -> T {
+fn guarded<const N: usize, T>(words: &mut [u64; N], call: impl FnOnce(*mut [u64; N]) -> T) -> T {
     let mut wide = [PATTERN; 18];
     wide[1..=N].copy_from_slice(words);
-    let answer = call(wide[1..].as_mut_ptr());
+    let answer = call(wide[1..].as_mut_ptr().cast());
     let beside = wide[0] == PATTERN && wide[N + 1..].iter().all(|word| *word == PATTERN);
     assert!(beside, "a call wrote beside its words");
     words.copy_from_slice(&wide[1..=N]);
     answer
 }
 
-fn with_out<const N: usize>(call: impl FnOnce(*mut u64) -> u32) -> Said<N> {
+fn with_out<const N: usize>(call: impl FnOnce(*mut [u64; N]) -> u32) -> Said<N> {
     let mut out = [PATTERN; N];
     let number = guarded(&mut out, call);
     Said { number, out }

@@ -234,44 +234,59 @@ pub fn writing_calls(tally: &mut Tally, random: &mut Random) {
     let mut buf = random.bytes(room);
     let mut taken: Vec<(u32, Vec<u8>)> = Vec::new();
     let (mut header, mut trailer) = (false, false);
-    let in_order = random.once_in(2);
-    let count = 2 + random.size(10);
-    for i in 0..count {
+    for kind in kinds(random) {
         let payload = files::payload(random);
         let stream = if random.once_in(9) {
             random.word32()
         } else {
             random.below(2) as u32
         };
-        let kind = match i {
-            0 if in_order => 0,
-            _ if in_order && i + 1 == count => 9,
-            _ if in_order => 5,
-            _ => random.below(10),
-        };
         let call = match kind {
-            0 | 1 => Write::Header,
-            9 => Write::Trailer,
-            _ => Write::Packet(&payload, stream),
+            Kind::Header => Write::Header,
+            Kind::Packet => Write::Packet(&payload, stream),
+            Kind::Trailer => Write::Trailer,
         };
-        let said = calls::write(tally, &mut writer, &mut buf, call);
-        if said.number == 0 {
-            match call {
-                Write::Header => header = true,
-                Write::Trailer => trailer = true,
-                Write::Packet(payload, stream) => taken.push((stream, payload.to_vec())),
-            }
+        if calls::write(tally, &mut writer, &mut buf, call).number != 0 {
+            continue;
+        }
+        match kind {
+            Kind::Header => header = true,
+            Kind::Packet => taken.push((stream, payload)),
+            Kind::Trailer => trailer = true,
         }
     }
     if header && trailer {
         let file = &buf[..writer[7] as usize];
         let finished = calls::check(tally, file);
-        tally.judge(
-            "list of writing calls",
-            finished && holds(file, &taken),
-            || format!("{taken:?} in {}", hex(file)),
-        );
+        let same = finished && holds(file, &taken);
+        tally.judge("list of writing calls", same, || {
+            format!("{taken:?} in {}", hex(file))
+        });
     }
+}
+
+#[derive(Clone, Copy)]
+enum Kind {
+    Header,
+    Packet,
+    Trailer,
+}
+
+/// Every second list is in order, so that many files get finished; in the others anything may follow anything.
+fn kinds(random: &mut Random) -> Vec<Kind> {
+    let packets = random.size(10);
+    if random.once_in(2) {
+        let mut kinds = vec![Kind::Packet; packets];
+        kinds.insert(0, Kind::Header);
+        kinds.push(Kind::Trailer);
+        return kinds;
+    }
+    let any = |_| match random.below(10) {
+        0 | 1 => Kind::Header,
+        9 => Kind::Trailer,
+        _ => Kind::Packet,
+    };
+    (0..packets + 2).map(any).collect()
 }
 
 fn holds(file: &[u8], taken: &[(u32, Vec<u8>)]) -> bool {

@@ -1,8 +1,7 @@
-//! The original's answers in 01's terms. Its refusals are texts: each is given 01's number by its words, and the place that it
-//! names. A text that names no place says `None`.
+//! The original's answers in 01's terms.
 
 use std::cell::RefCell;
-use std::io::{self, Cursor, Seek, SeekFrom};
+use std::io::Cursor;
 use std::panic::{AssertUnwindSafe, catch_unwind};
 use std::rc::Rc;
 
@@ -14,7 +13,9 @@ use oxideav_core::{
     CodecId, CodecParameters, Demuxer, Error, Muxer, Packet, Rational, StreamInfo, TimeBase,
 };
 
+use crate::lent::{Lent, Shared};
 use crate::plain::{Record, Settings, Walker, Writer};
+use crate::texts::{UNKNOWN_TEXT, number_of, writer_number};
 use crate::words::{Said, Write, accepted, refused};
 
 /// An answer of the original.
@@ -26,9 +27,6 @@ pub enum Told<const N: usize> {
     Panicked,
 }
 
-/// A text that is none of those that are known. No number of 01 is this one, so it never agrees.
-const UNKNOWN_TEXT: u32 = 999;
-
 fn caught<T>(call: impl FnOnce() -> T) -> Option<T> {
     catch_unwind(AssertUnwindSafe(call)).ok()
 }
@@ -39,59 +37,6 @@ fn told<const N: usize, const M: usize>(answer: Result<[u64; M], (u32, Option<u6
         Err((number, Some(place))) => Told::Said(refused(number, place)),
         Err((number, None)) => Told::Number(number),
     }
-}
-
-/// Number and place for the words of a text. A place of `None` here is one that the text names itself, in hexadecimal after
-/// "at offset" or in decimal after "#".
-const TEXTS: [(&str, u32, Option<u64>); 30] = [
-    ("slice too short for", 11, None),
-    ("expected FOURCC", 12, None),
-    ("amvh body length must be", 13, Some(28)),
-    ("video strh body length must be", 13, Some(104)),
-    ("video strf body length must be", 13, Some(168)),
-    ("audio strh body length must be", 13, Some(224)),
-    ("audio strf body length must be", 13, Some(280)),
-    ("prelude slice shorter than amvh body", 11, Some(32)),
-    ("prelude slice shorter than audio strf body", 11, Some(284)),
-    ("fps must be > 0", 14, Some(72)),
-    ("dwMicroSecPerFrame=", 15, Some(32)),
-    ("amvh +0x2C", 16, Some(76)),
-    ("amvh +0x30", 17, Some(80)),
-    ("expected all-zero", 18, None),
-    ("audio strf +0x00", 19, Some(284)),
-    ("audio strf +0x02", 20, Some(286)),
-    ("audio strf +0x08", 21, Some(292)),
-    ("audio strf +0x0C", 22, Some(296)),
-    ("audio strf +0x0E", 23, Some(298)),
-    ("audio strf +0x10", 24, Some(300)),
-    ("unexpected chunk tag", 31, None),
-    ("got video (00dc)", 62, None),
-    ("got audio (01wb)", 63, None),
-    ("must be 00dc or 01wb", 64, None),
-    ("chunk count must be even", 65, None),
-    ("amvh body must be", 28, Some(0)),
-    ("audio strf body must be at least", 27, Some(0)),
-    ("chunk header needs", 29, Some(0)),
-    ("01wb payload preamble needs", 25, Some(0)),
-    ("decoded_sample_count must be > 0", 26, Some(0)),
-];
-
-fn number_of(text: &str) -> (u32, Option<u64>) {
-    for (words, number, place) in TEXTS {
-        if text.contains(words) {
-            return (number, place.or_else(|| named_place(text)));
-        }
-    }
-    (UNKNOWN_TEXT, None)
-}
-
-fn named_place(text: &str) -> Option<u64> {
-    if let Some((_, hex)) = text.rsplit_once("at offset 0x") {
-        return u64::from_str_radix(hex, 16).ok();
-    }
-    let (_, rest) = text.rsplit_once('#')?;
-    let digits = rest.split(|c: char| !c.is_ascii_digit()).next()?;
-    digits.parse().ok()
 }
 
 fn number_of_error(error: AmvDemuxerError) -> (u32, Option<u64>) {
@@ -336,42 +281,6 @@ pub fn public_seek(records: &[Record], walker: &mut Walker, stream: u32, request
 
 pub const NEGATIVE: u32 = 998;
 
-/// A buffer of fixed length as a writer. It is shared, so that its bytes can be seen when the muxer that held it is gone.
-struct Lent {
-    bytes: Rc<RefCell<Vec<u8>>>,
-    position: u64,
-    /// Where the file ends: `SeekFrom::End` counts from there.
-    end: u64,
-}
-
-impl io::Write for Lent {
-    fn write(&mut self, data: &[u8]) -> io::Result<usize> {
-        let mut bytes = self.bytes.borrow_mut();
-        let from = usize::try_from(self.position)
-            .unwrap_or(usize::MAX)
-            .min(bytes.len());
-        let written = (&mut bytes[from..]).write(data)?;
-        self.position = self.position.saturating_add(written as u64);
-        self.end = self.end.max(self.position);
-        Ok(written)
-    }
-
-    fn flush(&mut self) -> io::Result<()> {
-        Ok(())
-    }
-}
-
-impl Seek for Lent {
-    fn seek(&mut self, to: SeekFrom) -> io::Result<u64> {
-        self.position = match to {
-            SeekFrom::Start(at) => at,
-            SeekFrom::End(by) => self.end.wrapping_add_signed(by),
-            SeekFrom::Current(by) => self.position.wrapping_add_signed(by),
-        };
-        Ok(self.position)
-    }
-}
-
 /// What a writing call of the original says and leaves. It keeps no ended mark and no count of bytes; `position` is where its
 /// writer stands.
 #[derive(Clone, Copy, Debug, PartialEq, Eq)]
@@ -380,24 +289,6 @@ pub struct Wrote {
     pub begun: bool,
     pub frames: u64,
     pub position: u64,
-}
-
-const WRITER_TEXTS: [(&str, u32); 5] = [
-    ("write_header called twice", 50),
-    ("called before write_header", 51),
-    ("chunk size exceeds 4 GiB", 52),
-    ("stream_index must be 0", 53),
-    ("amv: write ", 54),
-];
-
-fn writer_number(error: &Error) -> u32 {
-    let (Error::Invalid(text) | Error::Other(text)) = error else {
-        return UNKNOWN_TEXT;
-    };
-    WRITER_TEXTS
-        .iter()
-        .find(|(words, _)| text.contains(words))
-        .map_or(UNKNOWN_TEXT, |(_, number)| *number)
 }
 
 fn mux_state(writer: &Writer) -> MuxState {
@@ -416,7 +307,6 @@ fn mux_state(writer: &Writer) -> MuxState {
 /// A writing call on a muxer whose writer stands at `written` in the buffer.
 pub fn write(writer: &Writer, buf: &mut Vec<u8>, call: Write) -> Wrote {
     let bytes = Rc::new(RefCell::new(std::mem::take(buf)));
-    // The muxer keeps its writer to itself, so the writer's position is told by a second one that shares it.
     let lent = Rc::new(RefCell::new(Lent {
         bytes: bytes.clone(),
         position: writer.written,
@@ -438,24 +328,6 @@ pub fn write(writer: &Writer, buf: &mut Vec<u8>, call: Write) -> Wrote {
         begun: state.begun,
         frames: state.frames,
         position: lent.borrow().position,
-    }
-}
-
-struct Shared(Rc<RefCell<Lent>>);
-
-impl io::Write for Shared {
-    fn write(&mut self, data: &[u8]) -> io::Result<usize> {
-        self.0.borrow_mut().write(data)
-    }
-
-    fn flush(&mut self) -> io::Result<()> {
-        Ok(())
-    }
-}
-
-impl Seek for Shared {
-    fn seek(&mut self, to: SeekFrom) -> io::Result<u64> {
-        self.0.borrow_mut().seek(to)
     }
 }
 

@@ -5,6 +5,7 @@ use chunk_index::index::build_chunk_index;
 use chunk_index::index::summary;
 use demuxer::walker::NextPacket;
 use duration::AmvDuration;
+use error::AmvResult;
 use prelude::prelude::AmvPrelude;
 use prelude::prelude::AmvPreludeResult;
 use recording::check::CheckResult;
@@ -220,8 +221,18 @@ pub extern "C" fn amv_write_packet(
     let wrote = state.write_packet(buf, payload, stream);
     let next = wrote.writer;
     *writer = writer_words(next);
+    // Answered here and not by result_out: packets are many, and the call alone would take a third of the time.
     let result = wrote.result;
-    result_out(result, out)
+    match result {
+        AmvResult::Ok => {
+            *out = [0];
+            0
+        }
+        AmvResult::Err(e) => {
+            *out = [e.place()];
+            e.number()
+        }
+    }
 }
 
 #[no_mangle]
