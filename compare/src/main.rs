@@ -79,19 +79,6 @@ fn main() -> ExitCode {
     }
 }
 
-/// A panic of the original is an answer, and not to be printed; one of our own still ends the run with its message.
-fn quiet_panics() {
-    let usual = std::panic::take_hook();
-    std::panic::set_hook(Box::new(move |info| {
-        let ours = info
-            .location()
-            .is_some_and(|at| at.file().starts_with("src/"));
-        if ours {
-            usual(info);
-        }
-    }));
-}
-
 /// Each rule has a row in docs/DIFFERENCES.md and was met; else the list or the inputs are out of date.
 fn rules_stand(tally: &mut tally::Tally) {
     let list = include_str!("../../docs/DIFFERENCES.md");
