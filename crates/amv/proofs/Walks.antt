@@ -38,7 +38,7 @@ use denote.Signature.{typeAt, typesAt}
 use denote.Steps.{only, opens, closes, looks, shuts, peeks, heard, owned}
 use denote.Struct.Steps.{spelt}
 use denote.Triple.Call.{calls-from}
-use denote.Triple.Clauses.{Clauses, Ended, AtExit, atExit, lasts, ensured, closing}
+use denote.Triple.Clauses.{Clauses, Ended, Lasts, AtExit, atExit, lasts, ensured, closing}
 use denote.Triple.Entry.{Args, alive, onEntry}
 use denote.Triple.Spec.{tripleOf, Meets}
 use denote.Triple.Walked.{Stays, AllGo, walkOf, walked, walk-meets}
@@ -104,7 +104,9 @@ module _ (n : ℕ) (os : List (ℕ × ℕ)) (ρ τN τK : Ty) (νS νG : Sym) (�
   -- `let t = f(self.k, self.j); ..`
   abbrev pub fileFn : ℕ → Ty → Fn
   fileFn j τF = record {
-    lifetimes = n; outlives = os; params = 1;
+    lifetimes = n;
+    outlives = os;
+    params = 1;
     locals = slot τN ∷ slot ρ ∷ slot Pair ∷ slot τK ∷ slot τF ∷ [];
     body =
         seq (assign (place 3 []) (rvOpd (copy (self k))))
@@ -116,7 +118,9 @@ module _ (n : ℕ) (os : List (ℕ × ℕ)) (ρ τN τK : Ty) (νS νG : Sym) (�
   -- `let t = f(self.k, a, b, c); ..`
   abbrev pub threeFn : Ty → Ty → Ty → Fn
   threeFn τ₂ τ₃ τ₄ = record {
-    lifetimes = n; outlives = os; params = 4;
+    lifetimes = n;
+    outlives = os;
+    params = 4;
     locals = slot τN ∷ slot ρ ∷ slot τ₂ ∷ slot τ₃ ∷ slot τ₄ ∷ slot Pair ∷ slot τK ∷ [];
     body =
         seq (assign (place 6 []) (rvOpd (copy (self k))))
@@ -134,7 +138,9 @@ module _ (n : ℕ) (os : List (ℕ × ℕ)) (ρ τN τK : Ty) (νS νG : Sym) (�
   -- `let t = f(self.k, buf); ..`
   abbrev pub bufferFn : Ty → Ty → Ty → Ty → Fn
   bufferFn σ τB τP τB′ = record {
-    lifetimes = n; outlives = os; params = 2;
+    lifetimes = n;
+    outlives = os;
+    params = 2;
     locals = slot τN ∷ slot ρ ∷ slot τB ∷ slot Pair ∷ slot τK ∷ slot τP ∷ slot τB′ ∷ [];
     body =
         seq (assign (place 4 []) (rvOpd (copy (self k))))
@@ -146,7 +152,9 @@ module _ (n : ℕ) (os : List (ℕ × ℕ)) (ρ τN τK : Ty) (νS νG : Sym) (�
   -- `let t = f(self.k, buf, a, b); ..`
   abbrev pub bufferTwoFn : Ty → Ty → Ty → Ty → Ty → Ty → Fn
   bufferTwoFn σ τB τ₃ τ₄ τP τB′ = record {
-    lifetimes = n; outlives = os; params = 4;
+    lifetimes = n;
+    outlives = os;
+    params = 4;
     locals = slot τN ∷ slot ρ ∷ slot τB ∷ slot τ₃ ∷ slot τ₄ ∷ slot Pair ∷ slot τK ∷ slot τP ∷ slot τB′ ∷ [];
     body =
         seq (assign (place 6 []) (rvOpd (copy (self k))))
@@ -159,7 +167,9 @@ module _ (n : ℕ) (os : List (ℕ × ℕ)) (ρ τN τK : Ty) (νS νG : Sym) (�
 module _ (n : ℕ) (os : List (ℕ × ℕ)) (ρ τN τK : Ty) (νS : Sym) (τs : Tys) (k : ℕ) (f : Name) where
   abbrev pub viewFn : Fn
   viewFn = record {
-    lifetimes = n; outlives = os; params = 1;
+    lifetimes = n;
+    outlives = os;
+    params = 1;
     locals = slot τN ∷ slot ρ ∷ slot τK ∷ [];
     body =
         seq (assign (place 2 []) (rvOpd (copy (place 1 (deref (tyStruct νS τs) ∷ field k ∷ [])))))
@@ -168,7 +178,9 @@ module _ (n : ℕ) (os : List (ℕ × ℕ)) (ρ τN τK : Ty) (νS : Sym) (τs :
 
   abbrev pub viewOneFn : Ty → Fn
   viewOneFn τ₂ = record {
-    lifetimes = n; outlives = os; params = 2;
+    lifetimes = n;
+    outlives = os;
+    params = 2;
     locals = slot τN ∷ slot ρ ∷ slot τ₂ ∷ slot τK ∷ [];
     body =
         seq (assign (place 3 []) (rvOpd (copy (place 1 (deref (tyStruct νS τs) ∷ field k ∷ [])))))
@@ -383,6 +395,18 @@ module _ {M : Type 1} (𝓤 : URA M) (H : Heap 𝓤) (A : Atoms 𝓤) (W : Given
       use1 W (raw (fact 𝓤 (Said t))) (exE 𝓤 _ (λ ws. via 𝓤 (c (y .0 .0) (y .0 .3) .ensures (y .1) t (atExit E (y .0 .0) (y .0 .3) ws)) (snd∗ 𝓤 (sem 𝓤 H A (lasts E (y .0 .0) (y .0 .3) ws)) _) (said t _))) $ heard ! (Said t) (λ e.
       split ! $ at-once ! $ show ! (λ (r : R .Denot). mean 𝓤 H A (‵ (R .own r (u ∷ [])) ⊛ given (Said r) (raw tokens))) t $ move ! (1 ∷ []) $ frame ! $ check ! e $ done !))
 
+  -- where it was lent a `&mut`, also what says the last value of that
+  pub told-last : {Z : Type 0} (last : Lasts E (y .0 .0) (y .0 .3) → Z) (Fin : Z → Item 𝓤) (Said : R .Denot → Z → Type 0)
+      → ((ws : Lasts E (y .0 .0) (y .0 .3)) → ent 𝓤 (sem 𝓤 H A (lasts E (y .0 .0) (y .0 .3) ws)) (mean 𝓤 H A (Fin (last ws))))
+      → ((t : R .Denot) (ws : Lasts E (y .0 .0) (y .0 .3)) → ent 𝓤 (c (y .0 .0) (y .0 .3) .ensures (y .1) t (atExit E (y .0 .0) (y .0 .3) ws)) (fact 𝓤 (Said t (last ws)))) → (u : Val)
+      → ent 𝓤 (tripleOf 𝓤 H A (E .signature) (closing 𝓤 H A E c) .post y u) (mean 𝓤 H A (later (some (λ (t : R .Denot). ‵ (R .own t (u ∷ [])) ⊛ some (λ (z : Z). given (Said t z) (Fin z ⊛ raw tokens))))))
+  told-last {Z} last Fin Said fins said u =
+      qed W (later (some (λ (t : R .Denot). (raw tokens ⊛ ‵ (R .own t (u ∷ []))) ⊛ some (λ (ws : Lasts E (y .0 .0) (y .0 .3)). ‵ (lasts E (y .0 .0) (y .0 .3) ws) ⊛ raw (c (y .0 .0) (y .0 .3) .ensures (y .1) t (atExit E (y .0 .0) (y .0 .3) ws))))) ∷ []) ∵
+      updating ! $ await ! tt $ pick ! (λ t. split ! $ move ! (1 ∷ []) $ pick ! (λ ws. split ! $ use1 W (Fin (last ws)) (fins ws) $ move ! (1 ∷ []) $ use1 W (raw (fact 𝓤 (Said t (last ws)))) (said t ws) $ heard ! (Said t (last ws)) (λ e.
+      -- [what says the last value; the tokens and the result]
+      move ! (1 ∷ []) $ split ! $ at-once ! $ show ! (λ (r : R .Denot). mean 𝓤 H A (‵ (R .own r (u ∷ [])) ⊛ some (λ (z : Z). given (Said r z) (Fin z ⊛ raw tokens)))) t $ move ! (1 ∷ []) $ frame ! $
+      show ! (λ (z : Z). mean 𝓤 H A (given (Said t z) (Fin z ⊛ raw tokens))) (last ws) $ check ! e $ move ! (1 ∷ 0 ∷ []) $ done !)))
+
 -- of two clauses, both
 pub both-said : {M : Type 1} (𝓤 : URA M) (H : Heap 𝓤) (A : Atoms 𝓤) → Given 𝓤 H A → (φ ψ : Type 0) → ent 𝓤 (sep 𝓤 (fact 𝓤 φ) (fact 𝓤 ψ)) (fact 𝓤 (φ × ψ))
 both-said 𝓤 H A W φ ψ = fact-use 𝓤 φ (fst∗ 𝓤 (fact 𝓤 φ) (fact 𝓤 ψ)) (λ x. fact-use 𝓤 ψ (snd∗ 𝓤 (fact 𝓤 φ) (fact 𝓤 ψ)) (λ y. factI 𝓤 (φ × ψ) _ (x, y)))
@@ -526,9 +550,9 @@ module _ {M : Type 1} (𝓤 : URA M) (H : Heap 𝓤) (A : Atoms 𝓤) (W : Given
 module _ {M : Type 1} (𝓤 : URA M) (H : Heap 𝓤) (A : Atoms 𝓤) (W : Given 𝓤 H A) (𝓣 : Tables 𝓤 H) (E : Ended) (hs : Stays (E .signature .params) (E .kept)) (goes : AllGo 𝓤 H A W (E .signature .lifetimes) (E .signature .params) (E .kept) hs) (c : Clauses 𝓤 E) (fn : Fn) where
   pub meets-by : (sp : (κs : Lfts (E .signature .lifetimes)) → Spells (typesAt (E .signature .params) κs)) → ((κs : Lfts (E .signature .lifetimes)) → Tellss (typesAt (E .signature .params) κs) (Ises (typesAt (E .signature .params) κs)) (sp κs))
       → ((κs : Lfts (E .signature .lifetimes)) (qs : Shares (E .signature .lifetimes)) (bounds : AllOutlive (E .signature .lifetimes) (E .signature .outlives) κs) (a : Args (E .signature) κs) (g : c κs a .ghost)
-        → Are (typesAt (E .signature .params) κs) (Ises (typesAt (E .signature .params) κs)) a (valss (typesAt (E .signature .params) κs) (sp κs) a)
-        → ent 𝓤 (onEntry 𝓤 H A (E .signature) κs qs a (valss (typesAt (E .signature .params) κs) (sp κs) a))
-          (WpFn 𝓤 H (𝓣 .C) (𝓣 .Λ) fn (flat (typesAt (E .signature .params) κs) (valss (typesAt (E .signature .params) κs) (sp κs) a)) (walkOf 𝓤 H A E hs c .post ((κs, qs, bounds, a, valss (typesAt (E .signature .params) κs) (sp κs) a), g))))
+      → Are (typesAt (E .signature .params) κs) (Ises (typesAt (E .signature .params) κs)) a (valss (typesAt (E .signature .params) κs) (sp κs) a)
+      → ent 𝓤 (onEntry 𝓤 H A (E .signature) κs qs a (valss (typesAt (E .signature .params) κs) (sp κs) a))
+      (WpFn 𝓤 H (𝓣 .C) (𝓣 .Λ) fn (flat (typesAt (E .signature .params) κs) (valss (typesAt (E .signature .params) κs) (sp κs) a)) (walkOf 𝓤 H A E hs c .post ((κs, qs, bounds, a, valss (typesAt (E .signature .params) κs) (sp κs) a), g))))
       → Meets 𝓤 H A (E .signature) (WpFn 𝓤 H (𝓣 .C) (𝓣 .Λ) fn) (closing 𝓤 H A E c)
   meets-by sp tells walk = walk-meets 𝓤 H A E hs W goes c (WpFn 𝓤 H (𝓣 .C) (𝓣 .Λ) fn) (WpFn-mono 𝓤 H (W .laws) 𝓣 fn)
       (walked 𝓤 H A E hs c (WpFn 𝓤 H (𝓣 .C) (𝓣 .Λ) fn) sp tells (λ κs qs bounds a g are. via 𝓤 _ (fst∗ 𝓤 _ (c κs a .requires g)) (walk κs qs bounds a g are)))

@@ -151,7 +151,7 @@ module _ {M : Type 1} (𝓤 : URA M) (H : Heap 𝓤) (A : Atoms 𝓤) (W : Given
       walk =
           changes 𝓤 H A W C Λ code.function (vptr b o ∷ vy ∷ vn ∷ vz ∷ []) #callee (walkerVal (h .walker) ∷ vy ∷ vn ∷ vz ∷ []) (named 0) κ q b o γ (T.the-row α) K.the-row G.the-row N.the-row (readerHolder 𝓤 H A W α) answered h
           (runs-three 𝓤 H A W C Λ fm _ _ _ _ _ _ _ _ 1 #callee _ refl b o (tt, tt) _ Sought answer (λ t. walkerVal (t .walker)) _ _ _ vy vn vz
-            (shr-slice-lawful 𝓤 H A W (named 2) κ″ u8 .typed y (vy ∷ []) isy .0) (tt, record { fits = n-fits }) (sint-lawful 𝓤 H A W w64 .typed z _ isz .0))
+          (shr-slice-lawful 𝓤 H A W (named 2) κ″ u8 .typed y (vy ∷ []) isy .0) (tt, record { fits = n-fits }) (sint-lawful 𝓤 H A W w64 .typed z _ isz .0))
           Start ((‵ (flft κ′ q′) ⊛ token) ⊛ Rest) (raw (Callee .pre to)) (‵ (flft κ′ q′) ⊛ OwnY) (Callee .post to) after Post (λ v. W .laws .⇛-trans _) takes gives (known to)
           (told 𝓤 H A W callee.ended (callee.clauses 𝓤 H A at-mem run) to Said (λ t e. id⊢ 𝓤 _)) ends
 
