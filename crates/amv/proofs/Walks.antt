@@ -372,7 +372,9 @@ module _ (n : ℕ) (os : List (ℕ × ℕ)) (ρ τN τK : Ty) (νS νG : Sym) (�
   -- `f(&mut S(a, b))`
   abbrev pub lendFn : Ty → Ty → Fn
   lendFn τ₁ τ₂ = record {
-    lifetimes = n; outlives = os; params = 2;
+    lifetimes = n;
+    outlives = os;
+    params = 2;
     locals = slot Result ∷ slot τ₁ ∷ slot τ₂ ∷ lent-slot (tyStruct νS τs) ∷ slot τN ∷ slot ρ ∷ slot τK ∷ [];
     body =
         seq (assign (place 3 []) (aggregate (copy (place 1 []) ∷ copy (place 2 []) ∷ [])))
@@ -384,7 +386,9 @@ module _ (n : ℕ) (os : List (ℕ × ℕ)) (ρ τN τK : Ty) (νS νG : Sym) (�
   -- `f(&mut S(a, b), c, d, e)`
   abbrev pub lendThreeFn : Ty → Ty → Ty → Ty → Ty → Fn
   lendThreeFn τ₁ τ₂ τ₃ τ₄ τ₅ = record {
-    lifetimes = n; outlives = os; params = 5;
+    lifetimes = n;
+    outlives = os;
+    params = 5;
     locals = slot Result ∷ slot τ₁ ∷ slot τ₂ ∷ slot τ₃ ∷ slot τ₄ ∷ slot τ₅ ∷ lent-slot (tyStruct νS τs) ∷ slot τN ∷ slot ρ ∷ slot τK ∷ [];
     body =
         seq (assign (place 6 []) (aggregate (copy (place 1 []) ∷ copy (place 2 []) ∷ [])))
@@ -396,7 +400,9 @@ module _ (n : ℕ) (os : List (ℕ × ℕ)) (ρ τN τK : Ty) (νS νG : Sym) (�
   -- `f(&mut S(a), buf)`
   abbrev pub lendBufferFn : Ty → Ty → Ty → Ty → Ty → Fn
   lendBufferFn τ₁ σ τB τP τB′ = record {
-    lifetimes = n; outlives = os; params = 2;
+    lifetimes = n;
+    outlives = os;
+    params = 2;
     locals = slot Result ∷ slot τ₁ ∷ slot τB ∷ lent-slot (tyStruct νS τs) ∷ slot τN ∷ slot ρ ∷ slot τP ∷ slot τB′ ∷ slot τK ∷ [];
     body =
         seq (assign (place 3 []) (aggregate (copy (place 1 []) ∷ [])))
@@ -409,7 +415,9 @@ module _ (n : ℕ) (os : List (ℕ × ℕ)) (ρ τN τK : Ty) (νS νG : Sym) (�
   -- `f(&mut S(a), buf, c, d)`
   abbrev pub lendBufferTwoFn : Ty → Ty → Ty → Ty → Ty → Ty → Ty → Fn
   lendBufferTwoFn τ₁ σ τB τ₃ τ₄ τP τB′ = record {
-    lifetimes = n; outlives = os; params = 4;
+    lifetimes = n;
+    outlives = os;
+    params = 4;
     locals = slot Result ∷ slot τ₁ ∷ slot τB ∷ slot τ₃ ∷ slot τ₄ ∷ lent-slot (tyStruct νS τs) ∷ slot τN ∷ slot ρ ∷ slot τP ∷ slot τB′ ∷ slot τK ∷ [];
     body =
         seq (assign (place 5 []) (aggregate (copy (place 1 []) ∷ [])))
@@ -457,7 +465,7 @@ module _ {M : Type 1} (𝓤 : URA M) (H : Heap 𝓤) (A : Atoms 𝓤) (W : Given
       let state = field-typed τs (vs′ t) zero k τK d found (typed .0) (typed .1) in let answer = subst (Typed τN) (fits .0) (fits .1) in
       assigns ! (of-opd ! (load ! (spotted ! at-i (fld ! found (stop !))) (look-in ! 1 (sub ! k found (whole !))))) (spotted ! at-j (stop !)) (init ! 3 refl state) $
       assigns ! (agg ! (and-then ! (load ! (spotted ! at-n (stop !)) (look ! 2 refl)) (and-then ! (load ! (spotted ! at-j (stop !)) (look ! 3 refl)) (no-more !)))) (from ! (stop !))
-        (init ! 0 refl (yes-and (hasTy τN (vn t)) (hasTy τK (getV (vs′ t) k) && true) (answer .0) (yes-and (hasTy τK (getV (vs′ t) k)) true (state .0) tt), (answer .1, (state .1, tt)))) $
+      (init ! 0 refl (yes-and (hasTy τN (vn t)) (hasTy τK (getV (vs′ t) k) && true) (answer .0) (yes-and (hasTy τK (getV (vs′ t) k)) true (state .0) tt), (answer .1, (state .1, tt)))) $
       returns ! (look ! 0 refl) $ forget ! 0 refl $ forget ! 1 refl $ forget ! 2 refl $ forget ! 3 refl $ s))
 
   module _ (τ₁ τ₂ : Ty) (v₁ v₂ : Val) (typed₁ : Typed τ₁ v₁) (typed₂ : Typed τ₂ v₂) (made : vs ≡ vcons v₁ (vcons v₂ vnil)) where
@@ -786,7 +794,7 @@ module _ {M : Type 1} (𝓤 : URA M) (H : Heap 𝓤) (A : Atoms 𝓤) (W : Given
       → ent 𝓤 Start (mean 𝓤 H A (Owning h ⊛ ‵ (flft κ q) ⊛ rest))
       → ((ν l : ℕ) (γ : GName) → ent 𝓤 (mean 𝓤 H A (Lent ν l γ ⊛ Tokens ν rest)) (mean 𝓤 H A (i ν l γ ⊛ rest′)))
       → ((ν l : ℕ) (γ : GName) → ent 𝓤 (mean 𝓤 H A (i ν l γ)) (C f (asks l) (Q ν l γ)))
-      → ((ν l : ℕ) (γ : GName) (u : Val) → ent 𝓤 (Q ν l γ u) (mean 𝓤 H A (later (some (λ (t : RN .Denot). ‵ (RN .own t (u ∷ [])) ⊛ some (λ (z : Z). given (Said t z) ((Final γ z ⊛ fin z) ⊛ raw (mean 𝓤 H A (Tokens ν more))))))))) 
+      → ((ν l : ℕ) (γ : GName) (u : Val) → ent 𝓤 (Q ν l γ u) (mean 𝓤 H A (later (some (λ (t : RN .Denot). ‵ (RN .own t (u ∷ [])) ⊛ some (λ (z : Z). given (Said t z) ((Final γ z ⊛ fin z) ⊛ raw (mean 𝓤 H A (Tokens ν more)))))))))
       → ((t : RN .Denot) (z : Z) → Said t z → ent 𝓤 (mean 𝓤 H A (‵ (RN .own t (ret .val t ∷ [])) ⊛ Owning (last z) ⊛ ‵ (flft κ q) ⊛ fin z ⊛ more ⊛ rest′)) (Post (res t z)))
       → ent 𝓤 Start (WpFn 𝓤 H C Λ fn args Post)
   lends runs Start rest rest′ more i Q Said fin Post takes gives met leaves ends =

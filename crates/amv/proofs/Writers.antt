@@ -279,8 +279,8 @@ module _ {M : Type 1} (𝓤 : URA M) (H : Heap 𝓤) (A : Atoms 𝓤) (call : Wr
     lent =
         lends 𝓤 H A W C Λ (lendsFn f) (stateVal w ∷ vb ∷ []) f (λ l. vptr l 0 ∷ vb ∷ []) (named 0) κ q T.the-row N.the-row (writerHolder 𝓤 H A W .cell) (resultReturned 𝓤 H A W) made After (λ z. z .0) res
         (lends-buffer 𝓤 H A W C Λ fm _ _ _ _ _ _ _ _ 0 f _ refl (λ l. (tt, tt)) _ (LL.lawful T.the-type T′.the-laws 𝓤 H A W .typed made _ (LL.owes T.the-type T′.the-laws made (isw, tt)) .0)
-          (AmvResult × After) (λ y. resultReturned 𝓤 H A W .val (y .0)) (λ y. vcons (stateVal (y .1 .0 .writer)) vnil) _ (stateVal w) (LL.lawful K.the-type K′.the-laws 𝓤 H A W .typed w _ isw .0) refl
-          _ _ _ _ _ _ (x .ptr .0) (x .ptr .1) (vint w64 (length (x .now))) (tt, (tt, (record { fits = room .0 }, tt))) (tt, tt) (tt, (tt, (record { fits = room .0 }, tt))))
+        (AmvResult × After) (λ y. resultReturned 𝓤 H A W .val (y .0)) (λ y. vcons (stateVal (y .1 .0 .writer)) vnil) _ (stateVal w) (LL.lawful K.the-type K′.the-laws 𝓤 H A W .typed w _ isw .0) refl
+        _ _ _ _ _ _ (x .ptr .0) (x .ptr .1) (vint w64 (length (x .now))) (tt, (tt, (record { fits = room .0 }, tt))) (tt, tt) (tt, (tt, (record { fits = room .0 }, tt))))
         Begin (‵ ftrue ⊛ OwnX) (‵ ftrue) (‵ ftrue) (λ ν l γ. raw (ByRef .pre (lent-to ν l γ))) (λ ν l γ. ByRef .post (lent-to ν l γ)) Outcomes (λ z. Left x (z .1)) End begins lends-to (λ ν l γ. known (lent-to ν l γ))
         (λ ν l γ. told-last 𝓤 H A W byRef saysByRef (lent-to ν l γ) (λ ws. (ws .0, ws .1 .0)) (λ z. ‵ (fres γ (T.the-row .coded .code (z .0))) ⊛ Left x (z .1)) Outcomes (lasts-say ν l γ) (λ t ws. id⊢ 𝓤 _)) finishes
 

@@ -128,8 +128,8 @@ module _ {M : Type 1} (𝓤 : URA M) (H : Heap 𝓤) (A : Atoms 𝓤) (W : Given
       walk =
           lends 𝓤 H A W C Λ code.function (v ∷ walkerVal w ∷ []) #callee (λ l. vptr l 0 ∷ []) (named 0) κ q (T.the-row α) N.the-row (readerCell α) answer h AmvDemuxer (λ d. d) res
           (lends-none 𝓤 H A W C Λ fm _ _ _ _ _ _ _ _ 1 #callee _ refl (λ l. (tt, tt)) _ (LL.lawful (T.the-type α) (T′.the-laws α) 𝓤 H A W .typed h _ (LL.owes (T.the-type α) (T′.the-laws α) h (iss, (isw, tt))) .0)
-            (NextPacket × AmvDemuxer) (λ x. answer .val (x .0)) (λ x. vcons (sliceVal (x .1 .file .ptr) (length (x .1 .file .now))) (vcons (walkerVal (x .1 .walker)) vnil))
-            _ _ v (walkerVal w) (shr-slice-lawful 𝓤 H A W (named 0) κ u8 .typed s (v ∷ []) iss .0) (LL.lawful K.the-type K′.the-laws 𝓤 H A W .typed w _ isw .0) refl)
+          (NextPacket × AmvDemuxer) (λ x. answer .val (x .0)) (λ x. vcons (sliceVal (x .1 .file .ptr) (length (x .1 .file .now))) (vcons (walkerVal (x .1 .walker)) vnil))
+          _ _ v (walkerVal w) (shr-slice-lawful 𝓤 H A W (named 0) κ u8 .typed s (v ∷ []) iss .0) (LL.lawful K.the-type K′.the-laws 𝓤 H A W .typed w _ isw .0) refl)
           Start (‵ ftrue ⊛ Kept) Kept (‵ ftrue) (λ ν l γ. raw (Callee .pre (to ν l γ))) (λ ν l γ. Callee .post (to ν l γ)) (ReadsNext h) (λ d. ‵ ftrue) Post takes gives (λ ν l γ. known (to ν l γ))
           (λ ν l γ. told-last 𝓤 H A W callee.ended (callee.clauses 𝓤 H A at-mem run) (to ν l γ) (λ ws. ws .0) (λ d. ‵ (fres γ (T.the-row α .coded .code d)) ⊛ ‵ ftrue) (ReadsNext h) (λ ws. id⊢ 𝓤 _) (λ t ws. id⊢ 𝓤 _)) ends
 

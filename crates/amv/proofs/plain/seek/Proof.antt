@@ -163,12 +163,12 @@ module _ {M : Type 1} (𝓤 : URA M) (H : Heap 𝓤) (A : Atoms 𝓤) (W : Given
       walk =
           lends 𝓤 H A W C Λ code.function (v ∷ walkerVal w ∷ vy ∷ vn ∷ vz ∷ []) #callee (λ l. vptr l 0 ∷ vy ∷ vn ∷ vz ∷ []) (named 0) κ q (T.the-row α) N.the-row (readerCell α) answer h AmvDemuxer (λ d. d) res
           (lends-three 𝓤 H A W C Λ fm _ _ _ _ _ _ _ _ 1 #callee _ refl (λ l. (tt, tt)) _ (LL.lawful (T.the-type α) (T′.the-laws α) 𝓤 H A W .typed h _ (LL.owes (T.the-type α) (T′.the-laws α) h (iss, (isw, tt))) .0)
-            (SeekResult × AmvDemuxer) (λ x. answer .val (x .0)) (λ x. vcons (sliceVal (x .1 .file .ptr) (length (x .1 .file .now))) (vcons (walkerVal (x .1 .walker)) vnil))
-            _ _ v (walkerVal w) (shr-slice-lawful 𝓤 H A W (named 0) κ u8 .typed s (v ∷ []) iss .0) (LL.lawful K.the-type K′.the-laws 𝓤 H A W .typed w _ isw .0) refl
-            _ _ _ vy vn vz (shr-slice-lawful 𝓤 H A W (named 1) κ′ u8 .typed y (vy ∷ []) isy .0) (tt, record { fits = n-fits }) (sint-lawful 𝓤 H A W w64 .typed z _ isz .0))
+          (SeekResult × AmvDemuxer) (λ x. answer .val (x .0)) (λ x. vcons (sliceVal (x .1 .file .ptr) (length (x .1 .file .now))) (vcons (walkerVal (x .1 .walker)) vnil))
+          _ _ v (walkerVal w) (shr-slice-lawful 𝓤 H A W (named 0) κ u8 .typed s (v ∷ []) iss .0) (LL.lawful K.the-type K′.the-laws 𝓤 H A W .typed w _ isw .0) refl
+          _ _ _ vy vn vz (shr-slice-lawful 𝓤 H A W (named 1) κ′ u8 .typed y (vy ∷ []) isy .0) (tt, record { fits = n-fits }) (sint-lawful 𝓤 H A W w64 .typed z _ isz .0))
           Start (token ⊛ OwnS ⊛ OwnY) (OwnS ⊛ OwnY) token (λ ν l γ. raw (Callee .pre (to ν l γ))) (λ ν l γ. Callee .post (to ν l γ)) Said (λ d. ‵ ftrue) Post takes gives (λ ν l γ. known (to ν l γ))
           (λ ν l γ. told-last 𝓤 H A W callee.ended (callee.clauses 𝓤 H A at-mem run) (to ν l γ) (λ ws. ws .0) (λ d. ‵ (fres γ (T.the-row α .coded .code d)) ⊛ ‵ ftrue) Said
-            (λ ws. qed W (‵ (lasts callee.ended (ν ∷ κ, (κ, (κ′, tt))) (to ν l γ .0 .3) ws) ∷ []) ∵ fsplit ! $ frame ! $ drop ! $ nothing ! $ done !) (λ t ws. id⊢ 𝓤 _)) ends
+          (λ ws. qed W (‵ (lasts callee.ended (ν ∷ κ, (κ, (κ′, tt))) (to ν l γ .0 .3) ws) ∷ []) ∵ fsplit ! $ frame ! $ drop ! $ nothing ! $ done !) (λ t ws. id⊢ 𝓤 _)) ends
 
 pub seek-spec : {M : Type 1} → stated.statement M
 unfolding code.routine tablesOf

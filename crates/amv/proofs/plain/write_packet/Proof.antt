@@ -153,9 +153,9 @@ module _ {M : Type 1} (𝓤 : URA M) (H : Heap 𝓤) (A : Atoms 𝓤) (W : Given
       walk =
           lends 𝓤 H A W C Λ code.function (stateVal w ∷ vx ∷ vp ∷ vn ∷ []) #callee (λ l. vptr l 0 ∷ vx ∷ vp ∷ vn ∷ []) (named 0) κ q T.the-row N.the-row (writerHolder 𝓤 H A W .cell) (resultReturned 𝓤 H A W) h After (λ z. z .0) res
           (lends-buffer-two 𝓤 H A W C Λ fm _ _ _ _ _ _ _ _ 0 #callee _ refl (λ l. (tt, tt)) _ (LL.lawful T.the-type T′.the-laws 𝓤 H A W .typed h _ (LL.owes T.the-type T′.the-laws h (isw, tt)) .0)
-            (AmvResult × After) (λ y. resultReturned 𝓤 H A W .val (y .0)) (λ y. vcons (stateVal (y .1 .0 .writer)) vnil) _ (stateVal w) (LL.lawful K.the-type K′.the-laws 𝓤 H A W .typed w _ isw .0) refl
-            _ _ _ _ _ _ (x .ptr .0) (x .ptr .1) (vint w64 (length (x .now))) (tt, (tt, (record { fits = room .0 }, tt))) (tt, tt) (tt, (tt, (record { fits = room .0 }, tt)))
-            _ _ vp vn (shr-slice-lawful 𝓤 H A W (named 1) κ′ u8 .typed p (vp ∷ []) isp .0) (tt, record { fits = n-fits }))
+          (AmvResult × After) (λ y. resultReturned 𝓤 H A W .val (y .0)) (λ y. vcons (stateVal (y .1 .0 .writer)) vnil) _ (stateVal w) (LL.lawful K.the-type K′.the-laws 𝓤 H A W .typed w _ isw .0) refl
+          _ _ _ _ _ _ (x .ptr .0) (x .ptr .1) (vint w64 (length (x .now))) (tt, (tt, (record { fits = room .0 }, tt))) (tt, tt) (tt, (tt, (record { fits = room .0 }, tt)))
+          _ _ vp vn (shr-slice-lawful 𝓤 H A W (named 1) κ′ u8 .typed p (vp ∷ []) isp .0) (tt, record { fits = n-fits }))
           Start (token ⊛ OwnX ⊛ OwnP) OwnP token (λ ν l γ. raw (Callee .pre (to ν l γ))) (λ ν l γ. Callee .post (to ν l γ)) Said (λ z. Left x (z .1)) Post takes gives (λ ν l γ. known (to ν l γ))
           (λ ν l γ. told-last 𝓤 H A W callee.ended (callee.clauses 𝓤 H A at-mem run) (to ν l γ) (λ ws. (ws .0, ws .1 .0)) (λ z. ‵ (fres γ (T.the-row .coded .code (z .0))) ⊛ Left x (z .1)) Said (fins ν l γ) (λ t ws. id⊢ 𝓤 _)) ends
 
