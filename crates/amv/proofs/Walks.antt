@@ -28,11 +28,11 @@ use contract.Monad.{fact, factI, fact-use}
 use types.Kit.{Given, Goal, prop, lands, frees, atRet, Go, Item, Seq, Step, step, Soaks, ‵, raw, _⊛_, some, given, later, mean, _$_, _∵_, !, qed, by, move, keep, drop, use1, use2, use3, group, split, join, pick, learn, rewrite, await, updating, now as at-once, show, check, suffices, fsplit, fsplit3, fjoin, fjoin3, fpick, fpack, feqI, frame, done}
 use types.Part.{agg, whole, sub, look-in, store-in}
 use types.Run.{Walks, Finds, well-typed, look, init, forget, stop, hop, fld, from, load, addr, of-opd, and-then, no-more, assigns, land, returns, enter, alloc1, alloc0, params1, pass1, pass0, free1, free0}
-use types.Tokens.{lft-new, lft-end}
+use types.Tokens.{lft-new, lft-end, lent-back}
 use types.SemTy.{Body as Borrowed}
 use sound.WpLaws.{FmC, WpFn-mono}
 use denote.RattleType.{RattleType, flat}
-use denote.Lend.{lends-ref, ref-back}
+use denote.Lend.{lends-ref, ref-back, lends-shr}
 use denote.Laws.{Is, Ises, Are, Tells, Tellss, Spells, valss, Makes, Copy, shows}
 use denote.Memory.{mem, cellRaw, rawAll, partAt, partOf}
 use denote.Plain.{UInt, Boolean, uint-tells, uint-lawful, bool-tells, bool-lawful}
@@ -548,6 +548,49 @@ module _ {M : Type 1} (𝓤 : URA M) (H : Heap 𝓤) (A : Atoms 𝓤) (W : Given
         forget ! 6 refl $ forget ! 8 refl $ forget ! 10 refl $ forget ! 14 refl $ forget ! 16 refl $ forget ! 18 refl $ forget ! 20 refl $
         move ! (0 ∷ 22 ∷ 20 ∷ 21 ∷ 18 ∷ 19 ∷ 16 ∷ 17 ∷ 14 ∷ 15 ∷ 1 ∷ 13 ∷ 2 ∷ 12 ∷ 10 ∷ 11 ∷ 8 ∷ 9 ∷ 6 ∷ 7 ∷ 3 ∷ 5 ∷ []) $ freed ! _ $ by ! (ends t))))))))))))))))
 
+-- ---- a struct that a call makes, lent by `&` for another: `f(&g(a), b)`
+abbrev pub lendViewFn : ℕ → List (ℕ × ℕ) → Ty → Ty → Ty → Ty → Ty → Name → Name → Fn
+lendViewFn n os ρ τN τS τ₁ τ₂ g f = record {
+  lifetimes = n; outlives = os; params = 2;
+  locals = slot τN ∷ slot τ₁ ∷ slot τ₂ ∷ lent-slot τS ∷ slot τS ∷ slot ρ ∷ [];
+  body =
+      seq (call g (copy (place 1 []) ∷ []) (place 4 []))
+      (seq (assign (place 3 []) (rvOpd (copy (place 4 []))))
+      (seq (assign (place 5 []) (addrOf (place 3 [])))
+      (seq (call f (copy (place 5 []) ∷ copy (place 2 []) ∷ []) (place 0 []))
+      return)));
+}
+
+module _ {M : Type 1} (𝓤 : URA M) (H : Heap 𝓤) (A : Atoms 𝓤) (W : Given 𝓤 H A) (C : Calls 𝓤 H) (Λ : Loops 𝓤 H) (fm : FmC 𝓤 H (W .laws) C)
+    (n : ℕ) (os : List (ℕ × ℕ)) (ρ τN τS τ₁ τ₂ : Ty) (g f : Name) (ref-typed : (l : ℕ) → Typed ρ (vptr l 0)) (v₁ v₂ vS : Val) (typed₁ : Typed τ₁ v₁) (typed₂ : Typed τ₂ v₂) (X : Type 0) (val : X → Val) where
+  pub lends-view : (Start : SProp 𝓤) (i₀ kept₀ made : Item 𝓤) (Q₀ : Val → SProp 𝓤) (Y : Type 0) (i kept : ℕ → Y → Item 𝓤) (Q : ℕ → Y → Val → SProp 𝓤) (back : X → Item 𝓤) (Post : Val → SProp 𝓤)
+      → ent 𝓤 Start (mean 𝓤 H A (i₀ ⊛ kept₀))
+      → ent 𝓤 (mean 𝓤 H A i₀) (C g (v₁ ∷ []) Q₀)
+      → ((u : Val) → ent 𝓤 (mean 𝓤 H A (raw (Q₀ u) ⊛ kept₀)) (mean 𝓤 H A (later (given ((u ≡ vS) × Typed τS u) made))))
+      → ((l : ℕ) → ent 𝓤 (mean 𝓤 H A (‵ (fat fullShare τS l 0 vS) ⊛ made)) (mean 𝓤 H A (later (some (λ (y : Y). i l y ⊛ kept l y)))))
+      → ((l : ℕ) (y : Y) → ent 𝓤 (mean 𝓤 H A (i l y)) (C f (vptr l 0 ∷ v₂ ∷ []) (Q l y)))
+      → ((l : ℕ) (y : Y) (u : Val) → ent 𝓤 (mean 𝓤 H A (raw (Q l y u) ⊛ kept l y)) (mean 𝓤 H A (later (some (λ (t : X). given (Fits val τN u t) (‵ (fat fullShare τS l 0 vS) ⊛ back t))))))
+      → ((t : X) → ent 𝓤 (mean 𝓤 H A (back t)) (Post (val t)))
+      → ent 𝓤 Start (WpFn 𝓤 H C Λ (lendViewFn n os ρ τN τS τ₁ τ₂ g f) (v₁ ∷ v₂ ∷ []) Post)
+  lends-view Start i₀ kept₀ made Q₀ Y i kept Q back Post starts met₀ makes lent met got ends =
+      qed W (raw Start ∷ []) ∵ enter ! C Λ (lendViewFn n os ρ τN τS τ₁ τ₂ g f) (v₁ ∷ v₂ ∷ []) Post $
+      alloc1 ! (λ l₀. alloc1 ! (λ l₁. alloc1 ! (λ l₂. alloc1 ! (λ l₃. alloc1 ! (λ l₄. alloc1 ! (λ l₅. alloc0 ! $ params1 ! $ pass1 ! (init ! 8 refl typed₁) $ pass1 ! (init ! 6 refl typed₂) $ pass0 ! $
+      move ! (12 ∷ []) $ use1 W (i₀ ⊛ kept₀) starts $ split ! $
+      -- [what is asked; what is kept; _5; …; _4; …; _3; …; _2; …; _1; …; _0; …]
+      calls-from ! fm i₀ (v₁ ∷ []) Q₀ met₀ (and-then ! (load ! (from ! (stop !)) (look ! 10 refl)) (no-more !)) (λ u.
+      use2 W (later (given ((u ≡ vS) × Typed τS u) made)) (makes u) $ await ! tt $ learn ! (λ typed.
+      -- [what is made; _5; …; _4; …; _3; …; _2; …; _1; …; _0; …]
+      land ! (from ! (stop !)) (init ! 3 refl (typed .1)) $ rewrite ! 3 (λ (y : Val). ‵ (fat fullShare τS l₄ 0 y)) (typed .0) refl $
+      assigns ! (of-opd ! (load ! (from ! (stop !)) (look ! 3 refl))) (from ! (stop !)) (init ! 5 refl (subst (Typed τS) (typed .0) (typed .1))) $ assigns ! (addr ! (from ! (stop !))) (from ! (stop !)) (init ! 1 refl (ref-typed l₃)) $
+      move ! (5 ∷ 0 ∷ []) $ use2 W (later (some (λ (y : Y). i l₃ y ⊛ kept l₃ y))) (lent l₃) $ await ! tt $ pick ! (λ y. split ! $
+      -- [what is asked; what is kept; _5; …; _4; …; … of _3; _2; …; _1; …; _0; …]
+      calls-from ! fm (i l₃ y) (vptr l₃ 0 ∷ v₂ ∷ []) (Q l₃ y) (met l₃ y) (and-then ! (load ! (from ! (stop !)) (look ! 2 refl)) (and-then ! (load ! (from ! (stop !)) (look ! 7 refl)) (no-more !))) (λ u′.
+      use2 W (later (some (λ (t : X). given (Fits val τN u′ t) (‵ (fat fullShare τS l₃ 0 vS) ⊛ back t)))) (got l₃ y u′) $ await ! tt $ pick ! (λ t. learn ! (λ fits. split ! $
+      -- [_3; what is back; _5; …; _4; …; … of _3; _2; …; _1; …; _0; …]
+      land ! (from ! (stop !)) (init ! 11 refl (fits .1)) $ rewrite ! 11 (λ (y′ : Val). ‵ (fat fullShare τN l₀ 0 y′)) (fits .0) refl $
+      returns ! (look ! 11 refl) $ forget ! 0 refl $ forget ! 2 refl $ forget ! 4 refl $ forget ! 7 refl $ forget ! 9 refl $ forget ! 11 refl $
+      move ! (11 ∷ 12 ∷ 9 ∷ 10 ∷ 7 ∷ 8 ∷ 0 ∷ 6 ∷ 4 ∷ 5 ∷ 2 ∷ 3 ∷ []) $ freed ! _ $ by ! (ends t)))))))))))))
+
 -- ---- what lies behind a reference
 -- a type whose values are one machine value each, at a MIR type that the code has
 pub record Cell (R : RattleType) : Type 2 where
@@ -829,6 +872,40 @@ module _ {M : Type 1} (𝓤 : URA M) (H : Heap 𝓤) (A : Atoms 𝓤) (W : Given
           -- [the cell; what the struct owns; what else is last; κ's token; the rest; more tokens; the answer]
           at-once ! $ show ! (λ (x : RN .Denot × Z). mean 𝓤 H A (given (Fits (λ (x : RN .Denot × Z). ret .val (x .0)) (ret .mir) u x) (Lying l (last (x .1)) ⊛ back x))) (t, z) $
           check ! (ap only (ret .tells t _ is), ret .typed t u is) $ frame ! $ check ! e $ move ! (5 ∷ 0 ∷ 2 ∷ 1 ∷ 4 ∷ []) $ done !))))
+
+-- a struct in a local, lent by `&` for such a lifetime: what is lent, and how it comes back
+module _ {M : Type 1} (𝓤 : URA M) (H : Heap 𝓤) (A : Atoms 𝓤) (W : Given 𝓤 H A) (ℓ : Lifetime) (κ : Lft) (q : Share) (R : RattleType) (c : Cell R) (h : R .Denot) (l : ℕ) where
+  abbrev Viewed : Item 𝓤
+  Viewed = ‵ (fat fullShare (c .mir) l 0 (c .val h))
+
+  abbrev Whole : Item 𝓤
+  Whole = ‵ (R .own h (c .val h ∷ []))
+
+  -- the reference with the tokens of the call, and what the lender has
+  abbrev pub View : ℕ → GName → Item 𝓤
+  View ν γ = ‵ (ShrRef ℓ (ν ∷ κ) R .own (record { ptr = (l, 0); name = γ; now = h }) (vptr l 0 ∷ []))
+
+  abbrev pub ViewTokens : ℕ → Item 𝓤
+  ViewTokens ν = ‵ (flft (ν ∷ κ) (PosShare·left q)) ⊛ ‵ (flft κ (PosShare·right q))
+
+  abbrev pub Lender : ℕ → Item 𝓤
+  Lender ν = ‵ (flent (ν ∷ κ) (partAt R fullShare h l 0)) ⊛ raw (Carved 𝓤 H A W κ q ν)
+
+  pub view-in : ent 𝓤 (mean 𝓤 H A (Viewed ⊛ Whole ⊛ ‵ (flft κ q))) (mean 𝓤 H A (later (some (λ (y : ℕ × GName). View (y .0) (y .1) ⊛ ViewTokens (y .0) ⊛ Lender (y .0)))))
+  view-in =
+      qed W (Viewed ∷ Whole ∷ ‵ (flft κ q) ∷ []) ∵ updating ! $ use2 W (‵ (partAt R fullShare h l 0)) (lies-in 𝓤 H A W R c h l 0) $ lft-new ! tt (λ ν.
+      move ! (0 ∷ 2 ∷ []) $ use2 W (‵ (flft (ν ∷ κ) (PosShare·left q)) ⊛ ‵ (flft κ (PosShare·right q)) ⊛ raw (Carved 𝓤 H A W κ q ν)) (tokens-in 𝓤 H A W κ q ν) $ split ! $ move ! (1 ∷ []) $ split ! $
+      -- [κ's half; what was carved; the token of ν ∷ κ; the struct in memory]
+      move ! (3 ∷ []) $ use1 W (later (some (λ (γ : GName). View ν γ ⊛ ‵ (flent (ν ∷ κ) (partAt R fullShare h l 0))))) (lends-shr 𝓤 H A W R ℓ (ν ∷ κ) fullShare h l 0) $ await ! tt $ pick ! (λ γ. split ! $
+      -- [the reference; the lender's part; κ's half; what was carved; the token of ν ∷ κ]
+      at-once ! $ show ! (λ (y : ℕ × GName). mean 𝓤 H A (View (y .0) (y .1) ⊛ ViewTokens (y .0) ⊛ Lender (y .0))) (ν, γ) $ move ! (4 ∷ 2 ∷ []) $ join ! $ move ! (1 ∷ 0 ∷ []) $ done !))
+
+  pub view-out : (ν : ℕ) → ent 𝓤 (mean 𝓤 H A (ViewTokens ν ⊛ Lender ν)) (mean 𝓤 H A (later (Viewed ⊛ Whole ⊛ ‵ (flft κ q))))
+  view-out ν =
+      qed W (ViewTokens ν ∷ Lender ν ∷ []) ∵ updating ! $ split ! $ move ! (2 ∷ []) $ split ! $
+      -- [the lender's part; what was carved; the token of ν ∷ κ; κ's half]
+      move ! (2 ∷ 3 ∷ 1 ∷ []) $ use3 W (‵ (flft (ν ∷ []) fullShare) ⊛ ‵ (flft κ q)) (tokens-out 𝓤 H A W κ q ν) $ split ! $ lft-end ! tt $ use1 W (‵ (fdead (ν ∷ κ))) (W .lfts .dead-incl (ν ∷ κ) (ν ∷ []) (meet-⊑-left (ν ∷ []) κ)) $
+      move ! (0 ∷ 2 ∷ []) $ lent-back ! tt $ use1 W (Viewed ⊛ Whole) (lies-out 𝓤 H A W R c h l 0) $ split ! $ at-once ! $ done !
 
 -- a walk from the entry, taken to the contract
 module _ {M : Type 1} (𝓤 : URA M) (H : Heap 𝓤) (A : Atoms 𝓤) (W : Given 𝓤 H A) (𝓣 : Tables 𝓤 H) (E : Ended) (hs : Stays (E .signature .params) (E .kept)) (goes : AllGo 𝓤 H A W (E .signature .lifetimes) (E .signature .params) (E .kept) hs) (c : Clauses 𝓤 E) (fn : Fn) where

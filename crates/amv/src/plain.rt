@@ -1,12 +1,14 @@
 // The methods for callers that have plain values: the reader or the writer stands in a local, is lent for one call, and is taken apart again.
 use crate::reader::AmvDemuxer;
 use crate::writer::AmvMuxer;
+use demuxer::packet::Packet;
 use demuxer::walker::Read;
 use demuxer::walker::Walker;
 use muxer::Writer;
 use muxer::Wrote;
 use seek::Sought;
 ghost use mathlib.Core.Path.{_≡_};
+ghost use Rattle.demuxer.specs.Packet.{payloadOf};
 ghost use Rattle.demuxer.specs.Read.{saidRead, Placed, readOf};
 ghost use Rattle.seek.specs.Seek.{saidSought, seekOf};
 ghost use Rattle.muxer.specs.Writer.{headerCall, packetCall, trailerCall, Meets};
@@ -31,6 +33,13 @@ pub fn seek(file: &[u8], walker: Walker, records: &[u8], stream: u32, request: i
         result,
         walker: reader.walker,
     }
+}
+
+pub fn payload(file: &[u8], packet: Packet) -> &[u8]
+    ensures { λ r. ⌜ now r ≡ payloadOf (now (file .entry)) packet ⌝ }
+{
+    let reader = AmvDemuxer::new(file);
+    reader.payload(packet)
 }
 
 pub fn write_header(writer: Writer, buf: &mut [u8]) -> Wrote
