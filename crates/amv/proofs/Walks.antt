@@ -551,7 +551,9 @@ module _ {M : Type 1} (𝓤 : URA M) (H : Heap 𝓤) (A : Atoms 𝓤) (W : Given
 -- ---- a struct that a call makes, lent by `&` for another: `f(&g(a), b)`
 abbrev pub lendViewFn : ℕ → List (ℕ × ℕ) → Ty → Ty → Ty → Ty → Ty → Name → Name → Fn
 lendViewFn n os ρ τN τS τ₁ τ₂ g f = record {
-  lifetimes = n; outlives = os; params = 2;
+  lifetimes = n;
+  outlives = os;
+  params = 2;
   locals = slot τN ∷ slot τ₁ ∷ slot τ₂ ∷ lent-slot τS ∷ slot τS ∷ slot ρ ∷ [];
   body =
       seq (call g (copy (place 1 []) ∷ []) (place 4 []))

@@ -1,11 +1,13 @@
 // Writes a small recording through `AmvMuxer`, plays it through `AmvDemuxer` with one jump, and prints what was written and read.
 use amv::progress;
+use amv::progress::TrailerMatch;
 use amv::writer::AmvMuxer;
 use chunk_index::entry::ChunkIndexEntry;
 use chunk_index::index::IndexResult;
 use chunk_index::index::build_chunk_index;
 use demuxer::packet::Packet;
 use demuxer::walker::NextPacket;
+use demuxer::walker::Trailer;
 use demuxer::walker::Walker;
 use error::AmvError;
 use error::AmvResult;
@@ -106,14 +108,21 @@ fn write_recording(buf: &mut [u8]) -> Writer {
     trailer.writer
 }
 
-fn print_packet(packet: Packet) {
-    if packet.stream == 0 {
-        print_field(b"frame of ", packet.len as u64);
+// Of a frame also its payload, which is text here.
+fn print_packet(file: &[u8], packet: Packet) {
+    let frame = packet.stream == 0;
+    if frame {
+        print(b"frame");
     } else {
-        print_field(b"sound of ", packet.len as u64);
+        print(b"sound");
     }
+    print_field(b" of ", packet.len as u64);
     print_field(b" bytes at ", packet.start as u64);
     print_field(b", stamp ", packet.stamp);
+    if frame {
+        print(b": ");
+        print(amv::plain::payload(file, packet));
+    }
     print(b"\n");
 }
 
@@ -129,7 +138,7 @@ fn play(file: &[u8], start: Walker) -> Walker {
         let next = read.walker;
         walker = next;
         match answer {
-            NextPacket::Packet(packet) => print_packet(packet),
+            NextPacket::Packet(packet) => print_packet(file, packet),
             NextPacket::End => return walker,
             NextPacket::Err(error) => {
                 print(b"read");
@@ -141,7 +150,22 @@ fn play(file: &[u8], start: Walker) -> Walker {
     walker
 }
 
-fn print_progress(walker: Walker) {
+fn print_trailer(walker: Walker, len: u64) {
+    match progress::trailer_offset(walker) {
+        Trailer::At(offset) => print_field(b", trailer at ", offset),
+        Trailer::NotMet => print(b", no trailer"),
+    }
+    match progress::trailer_matches_eof(walker, len) {
+        TrailerMatch::Matches(last) => {
+            if last {
+                print(b" ends the file");
+            }
+        }
+        TrailerMatch::NotMet => {}
+    }
+}
+
+fn print_progress(file: &[u8], walker: Walker) {
     print_field(b"end: frames ", progress::video_frames_emitted(walker));
     print_field(b", blocks ", progress::audio_blocks_emitted(walker));
     if progress::movi_interleave_balanced(walker) {
@@ -150,6 +174,7 @@ fn print_progress(walker: Walker) {
     if progress::is_truncated(walker) {
         print(b", cut");
     }
+    print_trailer(walker, file.len() as u64);
     print(b"\n");
 }
 
@@ -170,12 +195,12 @@ fn jump(file: &[u8], walker: Walker, records: &[u8]) {
     let sought = amv::plain::seek(file, walker, records, 0, 1);
     print_sought(sought);
     let walker = sought.walker;
-    print_progress(play(file, walker));
+    print_progress(file, play(file, walker));
 }
 
 fn play_recording(file: &[u8]) {
     let walker = play(file, Walker::new());
-    print_progress(walker);
+    print_progress(file, walker);
     let mut table = [0u8; TABLE_RECORDS * ChunkIndexEntry::LEN];
     match build_chunk_index(file, &mut table) {
         IndexResult::Ok(count) => {

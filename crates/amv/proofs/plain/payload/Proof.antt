@@ -139,7 +139,7 @@ module _ {M : Type 1} (𝓤 : URA M) (H : Heap 𝓤) (A : Atoms 𝓤) (W : Given
         qed W (Cell l ∷ Made ∷ []) ∵ updating ! $ move ! (1 ∷ []) $ split ! $ move ! (1 ∷ []) $ split ! $
         -- [κ's token; what is kept; what the reader owns; the cell]
         move ! (3 ∷ 2 ∷ 0 ∷ []) $ use3 W (later (some (λ (y : ℕ × GName). View 𝓤 H A W (named 0) κ q (T.the-row α) (readerCell α) h l (y .0) (y .1) ⊛ ViewTokens 𝓤 H A W (named 0) κ q (T.the-row α) (readerCell α) h l (y .0) ⊛ Lender 𝓤 H A W (named 0) κ q (T.the-row α) (readerCell α) h l (y .0))))
-          (view-in 𝓤 H A W (named 0) κ q (T.the-row α) (readerCell α) h l) $ await ! tt $ pick ! (λ y. split ! $ move ! (1 ∷ []) $ split ! $ split ! $
+        (view-in 𝓤 H A W (named 0) κ q (T.the-row α) (readerCell α) h l) $ await ! tt $ pick ! (λ y. split ! $ move ! (1 ∷ []) $ split ! $ split ! $
         -- [the token of ν ∷ κ; κ's half; the lender's part; the reference; what is kept]
         nothing ! $ move ! (2 ∷ 0 ∷ []) $ join ! $ move ! (1 ∷ 0 ∷ []) $ join ! $ nothing ! $ owned ! P.the-row (Is P.the-row) (LL.makes P.the-type P′.the-plain 𝓤 H A) p _ isp $ fjoin ! $ move ! (3 ∷ 0 ∷ []) $ fjoin ! $
         move ! (1 ∷ 0 ∷ []) $ use2 W (raw (Callee .pre (to (y .0) l (y .1)))) (unasked 𝓤 H A W _) $ at-once ! $ show ! (λ (z : ℕ × GName). mean 𝓤 H A (raw (Callee .pre (to (z .0) l (z .1))) ⊛ Lender 𝓤 H A W (named 0) κ q (T.the-row α) (readerCell α) h l (z .0) ⊛ Kept)) y $ done !)
@@ -151,7 +151,7 @@ module _ {M : Type 1} (𝓤 : URA M) (H : Heap 𝓤) (A : Atoms 𝓤) (W : Given
     got l y u =
         qed W (raw (Callee .post (to (y .0) l (y .1)) u) ∷ Lender 𝓤 H A W (named 0) κ q (T.the-row α) (readerCell α) h l (y .0) ∷ Kept ∷ []) ∵ updating ! $
         use1 W (later (some (λ (t : RefT (List ℕ)). ‵ (ShrSlice (named 0) κ u8 .own t (u ∷ [])) ⊛ given (Said t) (raw (mean 𝓤 H A (‵ (flft (y .0 ∷ κ) (PosShare·left q)) ⊛ ‵ (flft κ (PosShare·right q)) ⊛ ‵ ftrue))))))
-          (told 𝓤 H A W callee.ended (callee.clauses 𝓤 H A at-mem run) (to (y .0) l (y .1)) Said (λ t e. id⊢ 𝓤 _) u) $ await ! tt $ pick ! (λ t. split ! $
+        (told 𝓤 H A W callee.ended (callee.clauses 𝓤 H A at-mem run) (to (y .0) l (y .1)) Said (λ t e. id⊢ 𝓤 _) u) $ await ! tt $ pick ! (λ t. split ! $
         peeks ! (ShrSlice (named 0) κ u8) (Is (ShrSlice (named 0) κ u8)) (shows 𝓤 H A (ShrSlice (named 0) κ u8)) t (u ∷ []) (λ is. rewrite ! 0 (λ (us : List Val). ‵ (ShrSlice (named 0) κ u8 .own t us)) (part .tells t _ is) refl $
         move ! (1 ∷ []) $ learn ! (λ e. use1 W (‵ (flft (y .0 ∷ κ) (PosShare·left q)) ⊛ ‵ (flft κ (PosShare·right q)) ⊛ ‵ ftrue) (id⊢ 𝓤 _) $ split ! $ move ! (1 ∷ []) $ split ! $ move ! (2 ∷ 0 ∷ []) $ join ! $
         -- [the tokens; true; the part; the lender's part; what is kept]
