@@ -16,6 +16,7 @@ use words::out::packet_out;
 use words::out::prelude_out;
 use words::out::result_out;
 use words::walker::WalkerState;
+use words::walker::at_position;
 use words::walker::mark_word;
 use words::walker::walker_of;
 use words::walker::walker_words;
@@ -141,18 +142,22 @@ pub extern "C" fn amv_next_packet(file: &[u8], walker: &mut [u64; 7], out: &mut 
     };
     let read = state.next_packet(file);
     let next = read.walker;
-    *walker = walker_words(next);
     let answer = read.answer;
     match answer {
         NextPacket::Packet(packet) => {
+            // Only the position is new, so four words are stored and not seven.
+            let position = next.position;
+            *walker = at_position(*walker, position);
             *out = packet_out(packet);
             0
         }
         NextPacket::End => {
+            *walker = walker_words(next);
             *out = [0; 7];
             0
         }
         NextPacket::Err(e) => {
+            *walker = walker_words(next);
             *out = [e.place(), 0, 0, 0, 0, 0, 0];
             e.number()
         }

@@ -9,7 +9,10 @@ use lib.Dec.{leb, eqb}
 use lib.ListN.{length, drop}
 use lib.Seq.{drop-cons, drop-length}
 use Rattle.error.specs.Answer.{accepted}
-use Rattle.words.specs.State.{word, markOf, markWord, notMet, trailerOf, trailerWord, askState, walkerLegal, walkerWords, settingsLegal, writerLegal, writerWords, WordsStand}
+use Rattle.demuxer.specs.Read.{advanced}
+use Rattle.demuxer.specs.declared.position.Position.{Position}
+use Rattle.demuxer.specs.declared.walker.Walker.{Walker}
+use Rattle.words.specs.State.{word, markOf, markWord, notMet, trailerOf, trailerWord, askState, walkerLegal, walkerOf, walkerWords, positionInto, settingsLegal, writerLegal, writerWords, WordsStand}
 
 -- ---- a list by its elements
 
@@ -62,6 +65,14 @@ both false b e = let z : _≡_ {A = ℕ} 0 1 = cc in absurd (omega arith)
 decoded : {S : Type 0} {s w : S} (legal : Bool) → askState legal s ≡ accepted w → (legal ≡ true) × (w ≡ s)
 decoded true e = (refl, cc)
 decoded false e = let z : _≡_ {A = ℕ} 0 1 = cc in absurd (omega arith)
+
+-- at another position only the first four words differ
+pub position-kept : (ws : List ℕ) (w : Walker) (p : Position) → walkerOf ws ≡ accepted w → positionInto p ws ≡ walkerWords (advanced w p)
+unfolding walkerLegal
+position-kept ws w p e =
+    let d = decoded (walkerLegal ws) e in
+    let m = both (leb (word ws 4) 1) (leb (word ws 5) 1) (d .0) in
+    sym (ap (λ v. walkerWords (advanced v p)) (d .1) ∙ rw (mark-kept (word ws 4) (m .0), mark-kept (word ws 5) (m .1), trailer-kept (word ws 6)) refl)
 
 pub words-stand : WordsStand
 unfolding walkerLegal writerLegal wordsFrom

@@ -6,6 +6,7 @@ use mathlib.Core.List.{List, [], _∷_}
 use lib.Dec.{leb, eqb}
 use lib.ListN.{length, getD}
 use Rattle.error.specs.Answer.{Answer, accepted, refused, numbered, ask}
+use Rattle.demuxer.specs.declared.position.Position.{Position}
 use Rattle.demuxer.specs.declared.walker.Trailer.{Trailer}
 use Rattle.demuxer.specs.declared.walker.Trailer.the-variants.{At, NotMet}
 use Rattle.demuxer.specs.declared.walker.Walker.{Walker}
@@ -65,6 +66,10 @@ abbrev pub walkerWords : Walker → List ℕ
 walkerWords w =
     let p = w .position in
     p .cursor ∷ p .frames .0 ∷ p .samples .0 ∷ p .blocks .0 ∷ markWord (w .end) ∷ markWord (w .cut) ∷ trailerWord (w .trailer) ∷ []
+
+-- the words of the same walker at another position
+abbrev pub positionInto : Position → List ℕ → List ℕ
+positionInto p ws = p .cursor ∷ p .frames .0 ∷ p .samples .0 ∷ p .blocks .0 ∷ word ws 4 ∷ word ws 5 ∷ word ws 6 ∷ []
 
 abbrev pub saidWalker : WalkerState → Answer Walker
 saidWalker (walker.Legal w) = accepted w

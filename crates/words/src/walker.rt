@@ -6,7 +6,7 @@ use demuxer::position::SampleStamp;
 use demuxer::walker::Trailer;
 use demuxer::walker::Walker;
 ghost use mathlib.Core.Path.{_≡_};
-ghost use Rattle.words.specs.State.{trailerOf, trailerWord, markWord, walkerOf, saidWalker, walkerWords};
+ghost use Rattle.words.specs.State.{trailerOf, trailerWord, markWord, walkerOf, saidWalker, walkerWords, positionInto};
 
 // The trailer's word where none was met.
 pub const NOT_MET: u64 = 18446744073709551615;
@@ -78,5 +78,20 @@ pub fn walker_words(walker: Walker) -> [u64; 7]
         mark_word(walker.end),
         mark_word(walker.cut),
         trailer_word(trailer),
+    ]
+}
+
+// The words of the same walker at another position: the marks and the trailer stay.
+pub fn at_position(words: [u64; 7], position: Position) -> [u64; 7]
+    ensures { λ r. ⌜ r ≡ positionInto position words ⌝ }
+{
+    [
+        position.cursor,
+        position.frames.0,
+        position.samples.0,
+        position.blocks.0,
+        words[4],
+        words[5],
+        words[6],
     ]
 }

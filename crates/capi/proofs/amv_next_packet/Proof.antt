@@ -1,8 +1,9 @@
-use mathlib.Core.Path.{refl, ap, _∙_}
+use mathlib.Core.Path.{refl, sym, ap, _∙_}
 use Rattle.words.specs.State.{saidWalker, walkerWords}
 use Rattle.words.proofs.Laws.{says-accepted, says-error, packet-placed}
+use Rattle.words.proofs.States.{position-kept}
 use Rattle.capi.specs.Calls.{nextWalker}
-use Rattle.capi.proofs.Laws.{known, walks-illegal, walks, read-gave}
+use Rattle.capi.proofs.Laws.{known, walks-illegal, walks, read-gave, packet-moves}
 use borrow.Author.Needs.{needs}
 use Rattle.capi.proofs.amv_next_packet.Statement.{statement}
 use Rattle.capi.proofs.amv_next_packet.Tie as tie
@@ -12,92 +13,106 @@ use Rattle.demuxer.proofs.walker.Walker.next_packet.Reads as next-packet-reads
 use Rattle.error.proofs.AmvError.number.Reads as number-reads
 use Rattle.error.proofs.AmvError.place.Reads as place-reads
 use Rattle.words.proofs.out.packet_out.Reads as packet-out-reads
+use Rattle.words.proofs.walker.at_position.Reads as at-position-reads
 use Rattle.words.proofs.walker.walker_of.Reads as walker-of-reads
 use Rattle.words.proofs.walker.walker_words.Reads as walker-words-reads
 
--- src/lib.rt:136:37
+-- src/lib.rt:139:37
 walker-of-requires : tie.Need-walker-of-requires
 walker-of-requires c κs = search needs
 
--- src/lib.rt:136:28
+-- src/lib.rt:139:28
 enum-known-state : tie.Need-enum-known-state
 enum-known-state c = search needs
 
--- src/lib.rt:137:9
+-- src/lib.rt:140:9
 enum-told : tie.Need-enum-told
 enum-told c = search needs
 
--- src/lib.rt:138:9
+-- src/lib.rt:141:9
 returns : tie.Need-returns
 returns c =
     walks-illegal 7 _ _ _ (known saidWalker (c .before .before .before .walker-of .ensures) (c .before .enum-told .given .1))
 
--- src/lib.rt:140:9
+-- src/lib.rt:143:9
 next-packet-requires : tie.Need-next-packet-requires
 next-packet-requires c κs = search needs
 
--- src/lib.rt:142:15
-walker-words-requires : tie.Need-walker-words-requires
-walker-words-requires c κs = search needs
-
--- src/lib.rt:145:28
+-- src/lib.rt:147:28
 enum-known-answer : tie.Need-enum-known-answer
 enum-known-answer c = search needs
 
--- src/lib.rt:146:20
+-- src/lib.rt:150:23
+at-position-requires : tie.Need-at-position-requires
+at-position-requires c κs = search needs
+
+-- src/lib.rt:151:20
 packet-out-requires : tie.Need-packet-out-requires
 packet-out-requires c κs = search needs
 
--- src/lib.rt:150:13
+-- src/lib.rt:155:23
 enum-told-2 : tie.Need-enum-told-2
 enum-told-2 c = search needs
 
--- src/lib.rt:153:25
+-- src/lib.rt:155:23
+walker-words-requires : tie.Need-walker-words-requires
+walker-words-requires c κs = search needs
+
+-- src/lib.rt:159:25
 enum-known-answer-2 : tie.Need-enum-known-answer-2
 enum-known-answer-2 c = search needs
 
--- src/lib.rt:154:21
+-- src/lib.rt:160:23
+walker-words-requires-2 : tie.Need-walker-words-requires-2
+walker-words-requires-2 c κs = search needs
+
+-- src/lib.rt:161:21
 place-requires : tie.Need-place-requires
 place-requires c κs = search needs
 
--- src/lib.rt:155:13
+-- src/lib.rt:162:13
 number-requires : tie.Need-number-requires
 number-requires c κs = search needs
 
--- src/lib.rt:131:1
+-- src/lib.rt:135:1
 returns-2 : tie.Need-returns-2
 returns-2 c =
-    let a = c .before .before .before .before .before .before .before .before .before .before .before .before .before .args in
-    let s = c .before .before .before .before .before .before .before .before in
+    let p = c .before in
+    let r = p .before .before .before .before .before .before .before .next-packet in
+    let s = p .before .before .before .before .before .before .before .before .before in
     let w = s .state .given .0 .0 in
-    let r = c .before .before .before .before .before .before .next-packet in
-    walks 7 _ (nextWalker (a .file .now)) _ (known saidWalker (s .before .before .walker-of .ensures) (s .state .given .1))
-    (says-accepted 7 (read-gave (a .file .now) w (r .ensures .0) (c .before .before .answer .given .1))
-    (c .packet-out .ensures ∙ packet-placed (a .file .now) w _ (c .before .before .answer .given .1) (r .ensures .1)))
-    (c .before .before .before .before .walker-words .ensures ∙ ap (λ q. walkerWords (q .walker)) (r .ensures .0))
+    let a = s .before .before .before .before .before .args in
+    let legal = known saidWalker (s .before .before .walker-of .ensures) (s .state .given .1) in
+    let given = p .before .before .before .before .answer .given .1 in
+    walks 7 _ (nextWalker (a .file .now)) _ legal
+    (says-accepted 7 (read-gave (a .file .now) w (r .ensures .0) given)
+    (c .packet-out .ensures ∙ packet-placed (a .file .now) w _ given (r .ensures .1)))
+    (p .at-position .ensures ∙ position-kept (a .walker .now) w _ legal ∙ ap walkerWords (sym (packet-moves (a .file .now) w (r .ensures .0) given))
+    ∙ ap (λ q. walkerWords (q .walker)) (r .ensures .0))
 
--- src/lib.rt:131:1
+-- src/lib.rt:135:1
 returns-3 : tie.Need-returns-3
 returns-3 c =
-    let a = c .before .before .before .before .before .before .before .before .before .before .before .before .args in
-    let s = c .before .before .before .before .before .before .before in
-    let w = s .state .given .0 .0 in
-    let r = c .before .before .before .before .before .next-packet in
+    let n = c .before in
+    let r = n .before .before .before .before .next-packet in
+    let s = n .before .before .before .before .before .before in
+    let a = s .before .before .before .before .before .args in
     walks 7 _ (nextWalker (a .file .now)) _ (known saidWalker (s .before .before .walker-of .ensures) (s .state .given .1))
-    (says-accepted 7 (read-gave (a .file .now) w (r .ensures .0) (c .before .enum-told2 .given .1)) refl)
-    (c .before .before .before .walker-words .ensures ∙ ap (λ q. walkerWords (q .walker)) (r .ensures .0))
+    (says-accepted 7 (read-gave (a .file .now) (s .state .given .0 .0) (r .ensures .0) (n .before .enum-told2 .given .1)) refl)
+    (n .walker-words .ensures ∙ ap (λ q. walkerWords (q .walker)) (r .ensures .0))
 
--- src/lib.rt:131:1
+-- src/lib.rt:135:1
 returns-4 : tie.Need-returns-4
 returns-4 c =
-    let a = c .before .before .before .before .before .before .before .before .before .before .before .before .before .before .before .args in
-    let s = c .before .before .before .before .before .before .before .before .before .before in
-    let w = s .state .given .0 .0 in
-    let r = c .before .before .before .before .before .before .before .before .next-packet in
+    let n = c .before .before .before in
+    let r = n .before .before .before .before .before .next-packet in
+    let s = n .before .before .before .before .before .before .before in
+    let a = s .before .before .before .before .before .args in
+    let e = n .before .before .answer2 .given in
     walks 7 _ (nextWalker (a .file .now)) _ (known saidWalker (s .before .before .walker-of .ensures) (s .state .given .1))
-    (says-error 7 (c .before .before .before .before .answer2 .given .0 .0) (read-gave (a .file .now) w (r .ensures .0) (c .before .before .before .before .answer2 .given .1)) (c .number .ensures)
+    (says-error 7 (e .0 .0) (read-gave (a .file .now) (s .state .given .0 .0) (r .ensures .0) (e .1)) (c .number .ensures)
     (c .before .before .place .ensures))
-    (c .before .before .before .before .before .before .walker-words .ensures ∙ ap (λ q. walkerWords (q .walker)) (r .ensures .0))
+    (n .walker-words2 .ensures ∙ ap (λ q. walkerWords (q .walker)) (r .ensures .0))
 
 pub amv-next-packet-spec : {M : Type 1} → statement M
 amv-next-packet-spec =
@@ -108,11 +123,13 @@ amv-next-packet-spec =
     enum-told
     returns
     next-packet-requires
-    walker-words-requires
     enum-known-answer
+    at-position-requires
     packet-out-requires
     enum-told-2
+    walker-words-requires
     enum-known-answer-2
+    walker-words-requires-2
     place-requires
     number-requires
     returns-2
