@@ -1,6 +1,6 @@
 //! The C interface as include/amv.h declares it. `tests/signatures.rs` holds the two against the library's source.
 
-extern "C" {
+unsafe extern "C" {
     pub fn amv_parse(file: *const u8, len: usize, strict: bool, out: *mut [u64; 16]) -> u32;
     pub fn amv_next_packet(
         file: *const u8,
