@@ -13,7 +13,7 @@ pub struct Side {
 
 // The library's calls are declared once, for the comparison; four of them are not timed.
 #[allow(dead_code)]
-#[path = "../../compare/src/c.rs"]
+#[path = "../../bindings/rust/src/sys.rs"]
 mod c;
 
 /// So many seeks in a run, to frames spread over the table.

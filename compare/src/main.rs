@@ -1,10 +1,13 @@
 //! Holds the library against the original and against a plain second implementation of document 01, on the same inputs.
 //!
 //!     compare SEED COUNT
+//!     compare vectors FOLDER
 //!
 //! The short inputs run in full, then random rounds until COUNT comparisons are made. Each difference from the original is one of
-//! the rules, which stand in docs/DIFFERENCES.md, or it fails.
+//! the rules, which stand in docs/DIFFERENCES.md, or it fails. The second form stores answers of the original for the program `vectors`.
 
+// The declarations of the binding: one text, which a test holds against the header and the source.
+#[path = "../../bindings/rust/src/sys.rs"]
 mod c;
 mod calls;
 mod files;
@@ -21,6 +24,7 @@ mod rules;
 mod suites;
 mod tally;
 mod texts;
+mod vectors;
 mod words;
 
 use std::process::ExitCode;
@@ -30,6 +34,13 @@ use std::time::Instant;
 const LEAST_ROUNDS: u32 = 1000;
 
 fn main() -> ExitCode {
+    if let [_, mode, folder] = &std::env::args().collect::<Vec<_>>()[..] {
+        if mode == "vectors" {
+            quiet_panics();
+            vectors::store(folder.as_ref());
+            return ExitCode::SUCCESS;
+        }
+    }
     let mut arguments = std::env::args().skip(1);
     let mut number = |default| {
         arguments

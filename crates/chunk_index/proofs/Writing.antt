@@ -7,7 +7,7 @@ use native.Mathlib.Omega.{arith}
 use lib.ListN.{length, take, drop, take-append-drop}
 use Rattle.fields.specs.File.{fileLimit}
 use Rattle.fields.specs.Le.{put}
-use Rattle.fields.proofs.Laws.{put-put, length-put}
+use Rattle.fields.proofs.Laws.{put-nothing, put-put, length-put}
 use Rattle.demuxer.specs.Head.{countOf}
 use Rattle.demuxer.specs.Position.{start, InRange, pastFrame, pastSound}
 use Rattle.demuxer.specs.Read.{payloadAt}
@@ -96,10 +96,6 @@ pub record Writing (file table₀ table : List ℕ) (p : Position) (to : ℕ) : 
   pub kept : length table ≡ length table₀
   pub room : to + 24 * length (records p (walk file (p .cursor))) ≤ length table
   pub rest : put table to (tableBytes (records p (walk file (p .cursor)))) ≡ put table₀ 0 (tableBytes (records start (fileWalk file)))
-
-put-nothing : (table : List ℕ) (to : ℕ) → put table to [] ≡ table
-unfolding put
-put-nothing table to = rw add-zero (take-append-drop to table)
 
 module _ {file table₀ table : List ℕ} {p : Position} {to : ℕ} (w : Writing file table₀ table p to) where
   pub write-end : records p (walk file (p .cursor)) ≡ [] → table ≡ put table₀ 0 (tableBytes (records start (fileWalk file)))

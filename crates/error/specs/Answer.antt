@@ -21,3 +21,12 @@ ask false number place rest = refused (numbered number place)
 abbrev pub andThen : {A B : Type 0} → Answer A → (A → Answer B) → Answer B
 andThen (accepted x) rest = rest x
 andThen (refused r) rest = refused r
+
+-- an answer as two numbers: that of the question, 0 where the call is accepted, and its place
+abbrev pub numberOf : {A : Type 0} → Answer A → ℕ
+numberOf (accepted x) = 0
+numberOf (refused r) = r .number
+
+abbrev pub placeOf : {A : Type 0} → Answer A → ℕ
+placeOf (accepted x) = 0
+placeOf (refused r) = r .place

@@ -1,6 +1,7 @@
 // The refusals: one case for each question of document 01 that a call can answer with no.
 ghost use mathlib.Core.Path.{_≡_};
-ghost use Rattle.error.specs.Refusal.{refusalOf};
+ghost use Rattle.error.specs.Answer.{numberOf, placeOf};
+ghost use Rattle.error.specs.Refusal.{refusalOf, said};
 
 // A refusal as 01 gives it: the number of the question, and the place where it was asked.
 pub struct Refusal {
@@ -207,5 +208,26 @@ impl AmvError {
         ensures { λ r. ⌜ r ≡ refusalOf self .place ⌝ }
     {
         self.refusal().place
+    }
+}
+
+impl AmvResult {
+    // 0 where the call is accepted.
+    pub fn number(self) -> u32
+        ensures { λ r. ⌜ r ≡ numberOf (said self) ⌝ }
+    {
+        match self {
+            AmvResult::Ok => 0,
+            AmvResult::Err(e) => e.number(),
+        }
+    }
+
+    pub fn place(self) -> u64
+        ensures { λ r. ⌜ r ≡ placeOf (said self) ⌝ }
+    {
+        match self {
+            AmvResult::Ok => 0,
+            AmvResult::Err(e) => e.place(),
+        }
     }
 }

@@ -7,8 +7,8 @@ use native.Mathlib.Nat.{pow-suc, mul-assoc, mul-comm, mul-left-comm, add-zero, z
 use native.Mathlib.Numerals.{add-one}
 use native.Mathlib.Omega.{arith}
 use lib.Arith.{mod-mul}
-use lib.ListN.{length, getD, set, take, drop, length-append, length-take, length-drop, List·getD-append, List·getD-eq-default}
-use lib.Seq.{length-take-le, drop-cons, set-split, getD-append-add, getD-drop, getD-take, take-append-add, drop-append-add, drop-drop, take-at, drop-at}
+use lib.ListN.{length, getD, set, length-set, take, drop, length-append, length-take, length-drop, take-append-drop, List·getD-append, List·getD-eq-default}
+use lib.Seq.{paste, paste-suc, take-length, length-take-le, drop-cons, set-split, getD-append-add, getD-drop, getD-take, take-append-add, drop-append-add, drop-drop, take-at, drop-at}
 use Rattle.fields.specs.Le.{le, leBytes, put, putLe, Bytes}
 
 -- ---- reading
@@ -137,6 +137,43 @@ put-put xs off ys zs h =
     let e : off + length (ys ++ zs) ≡ off + length ys + length zs = simp length-append (omega arith) in
     rw (r, t, d, e) (simp append-assoc)
 
+pub put-nothing : (xs : List ℕ) (off : ℕ) → put xs off [] ≡ xs
+unfolding put
+put-nothing xs off = rw add-zero (take-append-drop off xs)
+
+-- a turn of the loop that copies
+pub copy-more : (xs : List ℕ) (off : ℕ) (src : List ℕ) (i : ℕ) {ys : List ℕ} → off + length src ≤ length xs → i < length src
+    → ys ≡ paste xs off src i → set ys (off + i) (getD src i 0) ≡ paste xs off src (i + 1)
+copy-more xs off src i h l e = rw (add-one, e) (paste-suc xs off src i 0 (omega arith) l)
+
+pub copy-done : (xs : List ℕ) (off : ℕ) (src : List ℕ) (i : ℕ) → i ≡ length src → paste xs off src i ≡ put xs off src
+unfolding put
+copy-done xs off src i e = rw (e, take-length, append-assoc)
+
+-- numbers stored one after the other, from a number on
+unfoldable pub sets : List ℕ → ℕ → ℕ → List ℕ → List ℕ
+sets xs at k [] = xs
+sets xs at k (b ∷ bs) = sets (set xs (at + k) b) at (suc k) bs
+
+sets-put : (bs : List ℕ) (b : ℕ) (xs : List ℕ) (at k : ℕ) → at + k + suc (length bs) ≤ length xs → sets xs at k (b ∷ bs) ≡ put xs (at + k) (b ∷ bs)
+unfolding sets
+sets-put [] b xs at k h = put-one xs (at + k) b (omega arith)
+sets-put (d ∷ bs) b xs at k h =
+    let n : at + suc k ≡ at + k + 1 = omega arith in
+    sets-put bs d (set xs (at + k) b) at (suc k) (simp length-set (omega arith))
+    ∙ ap (λ (o : ℕ). put (set xs (at + k) b) o (d ∷ bs)) n
+    ∙ ap (λ (l : List ℕ). put l (at + k + 1) (d ∷ bs)) (put-one xs (at + k) b (omega arith))
+    ∙ put-put xs (at + k) (b ∷ []) (d ∷ bs) (omega arith)
+
+-- are one write
+pub stores-put : (xs : List ℕ) (at b : ℕ) (bs : List ℕ) → at + suc (length bs) ≤ length xs → sets (set xs at b) at 1 bs ≡ put xs at (b ∷ bs)
+unfolding sets
+stores-put xs at b [] h = put-one xs at b (omega arith)
+stores-put xs at b (d ∷ bs) h =
+    sets-put bs d (set xs at b) at 1 (simp length-set (omega arith))
+    ∙ ap (λ (l : List ℕ). put l (at + 1) (d ∷ bs)) (put-one xs at b (omega arith))
+    ∙ put-put xs at (b ∷ []) (d ∷ bs) (omega arith)
+
 -- a wide field is written as its low part and then its high one
 pub putLe-split : (v w : ℕ) (xs : List ℕ) (off n : ℕ) → off + v ≤ length xs
     → putLe w (putLe v xs off (n % 256 ^ v)) (off + v) (n / 256 ^ v) ≡ putLe (v + w) xs off n
@@ -151,6 +188,15 @@ pub putLe-halves : (w : ℕ) (xs : List ℕ) (off n : ℕ) {ys zs : List ℕ} �
 putLe-halves w xs off n h p q = q ∙ ap (λ (l : List ℕ). putLe w l (off + w) (n / 256 ^ w)) p ∙ putLe-split w w xs off n h
 
 -- ---- what stands where after a write
+
+-- what was written is what is read there
+pub getD-put-in : (xs : List ℕ) (off : ℕ) (ys : List ℕ) (k i : ℕ) → off ≤ length xs → k < length ys → i ≡ off + k → getD (put xs off ys) i 0 ≡ getD ys k 0
+unfolding put
+getD-put-in xs off ys k i h l e =
+    let t : i ≡ length (take off xs) + k = e ∙ ap (λ (o : ℕ). o + k) (sym (length-take-le off xs h)) in
+    ap (λ (o : ℕ). getD (take off xs ++ (ys ++ drop (off + length ys) xs)) o 0) t
+    ∙ getD-append-add (take off xs) (ys ++ drop (off + length ys) xs) k 0
+    ∙ List·getD-append ys _ 0 k l
 
 pub getD-put-before : (xs : List ℕ) (off : ℕ) (ys : List ℕ) (i : ℕ) → off ≤ length xs → i < off → getD (put xs off ys) i 0 ≡ getD xs i 0
 unfolding put

@@ -6,7 +6,7 @@ ghost use mathlib.Core.Path.{_≡_};
 ghost use Prim.Native.Nat.{_+_, _*_, _<_, _≤_, min};
 ghost use lib.ListN.{length};
 ghost use Rattle.fields.specs.Capped.{quotient};
-ghost use Rattle.fields.specs.Le.{le, putLe, Widened};
+ghost use Rattle.fields.specs.Le.{le, put, putLe, Widened};
 
 fn wide(b: u8) -> u64
     ensures { λ r. ⌜ Widened b r ⌝ }
@@ -86,4 +86,16 @@ pub fn quotient(a: u32, b: u32) -> u32
     ensures { λ r. ⌜ r ≡ quotient a b ⌝ }
 {
     if b == 0 { 0 } else { a / b }
+}
+
+// Copies bytes to an offset.
+pub fn copy_in(buf: &mut [u8], off: usize, src: &[u8])
+    requires { ⌜ off + length (now src) ≤ length (now buf) ⌝ }
+    ensures { λ _. ⌜ now (buf .exit) ≡ put (now (buf .entry)) off (now (src .entry)) ⌝ }
+{
+    let mut i = 0;
+    while i < src.len() {
+        buf[off + i] = src[i];
+        i += 1;
+    }
 }

@@ -15,15 +15,6 @@ use Rattle.listing.specs.Written.{Written}
 
 -- ---- words
 
--- a turn of the loop that copies
-pub copy-more : (xs : List ℕ) (off : ℕ) (src : List ℕ) (i : ℕ) {ys : List ℕ} → off + length src ≤ length xs → i < length src
-    → ys ≡ paste xs off src i → set ys (off + i) (getD src i 0) ≡ paste xs off src (i + 1)
-copy-more xs off src i h l e = rw (add-one, e) (paste-suc xs off src i 0 (omega arith) l)
-
-pub copy-done : (xs : List ℕ) (off : ℕ) (src : List ℕ) (i : ℕ) → i ≡ length src → paste xs off src i ≡ put xs off src
-unfolding put
-copy-done xs off src i e = rw (e, take-length, append-assoc)
-
 -- a word right after another is one
 pub join : {xs ys zs : List ℕ} {off m n : ℕ} {a b : List ℕ} → Written xs off a ys m → Written ys m b zs n → Written xs off (a ++ b) zs n
 join {xs} {ys} {zs} {off} {m} {n} {a} {b} p q =

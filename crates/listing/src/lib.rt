@@ -16,12 +16,8 @@ fn put_word(out: &mut [u8], off: usize, word: &[u8]) -> usize
     requires { ⌜ off + length (now word) ≤ length (now out) ⌝ }
     ensures { λ r. ⌜ Written (now (out .entry)) off (now (word .entry)) (now (out .exit)) r ⌝ }
 {
-    let mut i = 0;
-    while i < word.len() {
-        out[off + i] = word[i];
-        i += 1;
-    }
-    off + i
+    fields::copy_in(out, off, word);
+    off + word.len()
 }
 
 // Puts the digits of a number at the end of 20 bytes, and answers where they start.
@@ -42,7 +38,7 @@ fn put_digits(digits: &mut [u8], n: u64) -> usize
 }
 
 // A number has a space before it.
-fn put_number(out: &mut [u8], off: usize, n: u64) -> usize
+pub fn put_number(out: &mut [u8], off: usize, n: u64) -> usize
     requires { ⌜ off + 21 ≤ length (now out) ⌝ }
     ensures { λ r. ⌜ Written (now (out .entry)) off (32 ∷ decimal n) (now (out .exit)) r ⌝ }
     ensures { λ r. ⌜ r ≤ off + 21 ⌝ }

@@ -68,15 +68,6 @@ open-err w rest s e = open-and w rest ∙ then-err (λ _. rest) s e
 
 -- ---- bytes
 
--- a turn of the loop that copies
-pub copy-more : (xs : List ℕ) (off : ℕ) (src : List ℕ) (i : ℕ) {ys : List ℕ} → off + length src ≤ length xs → i < length src
-    → ys ≡ paste xs off src i → set ys (off + i) (getD src i 0) ≡ paste xs off src (i + 1)
-copy-more xs off src i h l e = rw (add-one, e) (paste-suc xs off src i 0 (omega arith) l)
-
-pub copy-done : (xs : List ℕ) (off : ℕ) (src : List ℕ) (i : ℕ) → i ≡ length src → paste xs off src i ≡ put xs off src
-unfolding put
-copy-done xs off src i e = rw (e, take-length, append-assoc)
-
 -- a tag, a length and a payload, each put right after the one before
 pub put-packet : (xs : List ℕ) (off stream : ℕ) (payload : List ℕ) {ys zs ws : List ℕ} → off + (8 + length payload) ≤ length xs
     → ys ≡ put xs off (leBytes 4 (streamTag stream)) → zs ≡ put ys (off + 4) (leBytes 4 (length payload)) → ws ≡ put zs (off + 8) payload

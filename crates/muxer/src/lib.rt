@@ -78,17 +78,6 @@ fn frames_after(stream: u32, frames: u64) -> u64
     }
 }
 
-fn copy_in(buf: &mut [u8], off: usize, src: &[u8])
-    requires { ⌜ off + length (now src) ≤ length (now buf) ⌝ }
-    ensures { λ _. ⌜ now (buf .exit) ≡ put (now (buf .entry)) off (now (src .entry)) ⌝ }
-{
-    let mut i = 0;
-    while i < src.len() {
-        buf[off + i] = src[i];
-        i += 1;
-    }
-}
-
 fn put_packet(buf: &mut [u8], off: usize, payload: &[u8], stream: u32)
     requires { ⌜ off + (8 + length (now payload)) ≤ length (now buf) ⌝ }
     requires { ⌜ length (now payload) ≤ 4294967295 ⌝ }
@@ -96,14 +85,14 @@ fn put_packet(buf: &mut [u8], off: usize, payload: &[u8], stream: u32)
 {
     fields::write_u32_le(buf, off, chunk::stream_tag(stream));
     fields::write_u32_le(buf, off + 4, payload_size(payload));
-    copy_in(buf, off + 8, payload);
+    fields::copy_in(buf, off + 8, payload);
 }
 
 fn put_trailer(buf: &mut [u8], off: usize)
     requires { ⌜ off + 8 ≤ length (now buf) ⌝ }
     ensures { λ _. ⌜ now (buf .exit) ≡ put (now (buf .entry)) off trailerBytes ⌝ }
 {
-    copy_in(buf, off, b"AMV_END_");
+    fields::copy_in(buf, off, b"AMV_END_");
 }
 
 impl Wrote {
@@ -136,7 +125,7 @@ impl Settings {
             self.channels,
         );
         let bytes = built.bytes;
-        copy_in(buf, 0, &bytes);
+        fields::copy_in(buf, 0, &bytes);
     }
 }
 

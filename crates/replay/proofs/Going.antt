@@ -4,17 +4,16 @@ use Prim.Native.Nat.{ℕ, zero, suc, _+_, _-_, _*_, _≤_, _<_}
 use mathlib.Core.List.{List, [], _∷_, _++_, append-assoc, append-nil}
 use native.Mathlib.Omega.{arith}
 use lib.IntN.{ℤ, pos}
-use lib.ListN.{length, getD, take, drop, length-append, length-take}
-use lib.Seq.{drop-append-add, drop-drop}
+use lib.ListN.{length, getD}
 use Rattle.fields.specs.Le.{Bytes, put}
-use Rattle.fields.proofs.Laws.{length-put}
+use Rattle.fields.proofs.Laws.{length-put, put-put, put-nothing}
 use Rattle.demuxer.specs.Read.{fresh}
 use Rattle.demuxer.specs.declared.walker.Walker.{Walker}
 use Rattle.recording.specs.Machine.{Call, answers, after, call, OwnIndex}
 use Rattle.recording.specs.Grammar.{Finished}
 use Rattle.recording.proofs.Lists.{reads-and-seeks}
 use Rattle.chunk_index.specs.Chunks.{Chunk}
-use Rattle.replay.specs.Replay.{callOf, callsFrom, rowWords, rowAnswer, rowAt, answersIn, Run, Agreed}
+use Rattle.replay.specs.Replay.{callOf, callsFrom, rowWords, rowAnswer, rowOf, rowsOf, rowAt, answersIn, Run, Agreed}
 use Rattle.replay.specs.declared.Row.{Row}
 use Rattle.replay.proofs.Laws.{rowAt-put, answersIn-put}
 
@@ -27,7 +26,8 @@ pub record Going (file table kinds streams : List ℕ) (requests : List ℤ) (n 
   pub held : length before < 18446744073709551616
   pub walks : after file table w (callsFrom kinds streams requests i (n - i)) ≡ after file table fresh (callsFrom kinds streams requests 0 n)
   pub says : answersIn file rows i ++ answers file table w (callsFrom kinds streams requests i (n - i)) ≡ answers file table fresh (callsFrom kinds streams requests 0 n)
-  pub others : drop (n * 6) rows ≡ drop (n * 6) before
+  pub rows-are :
+      put rows at (rowsOf file table w (callsFrom kinds streams requests i (n - i))) ≡ put before 0 (rowsOf file table fresh (callsFrom kinds streams requests 0 n))
 
 pub going-first : (file table kinds streams : List ℕ) (requests : List ℤ) (n : ℕ) (rows : List ℕ) → n * 6 ≤ length rows
     → length rows < 18446744073709551616 → Going file table kinds streams requests n rows rows fresh 0 0
@@ -42,28 +42,17 @@ going-first file table kinds streams requests n rows h f =
       held = f;
       walks = ap (λ (k : ℕ). after file table fresh (callsFrom kinds streams requests 0 k)) m;
       says = ap (λ (k : ℕ). answers file table fresh (callsFrom kinds streams requests 0 k)) m;
-      others = refl;
+      rows-are = ap (λ (k : ℕ). put rows 0 (rowsOf file table fresh (callsFrom kinds streams requests 0 k))) m;
     }
-
-drop-put : (xs : List ℕ) (off : ℕ) (ys : List ℕ) (n : ℕ) → off + length ys ≤ n → n ≤ length xs → drop n (put xs off ys) ≡ drop n xs
-unfolding put
-drop-put xs off ys n h l =
-    let t : length (take off xs ++ ys) ≡ off + length ys = simp (length-append, length-take) (omega arith) in
-    let e : n ≡ length (take off xs ++ ys) + (n - (off + length ys)) = omega arith in
-    let m : off + length ys + (n - (off + length ys)) ≡ n = omega arith in
-    rw (← append-assoc)
-    (ap (λ (k : ℕ). drop k ((take off xs ++ ys) ++ drop (off + length ys) xs)) e
-    ∙ drop-append-add (take off xs ++ ys) (drop (off + length ys) xs) (n - (off + length ys))
-    ∙ drop-drop (n - (off + length ys)) (off + length ys) xs
-    ∙ ap (λ (k : ℕ). drop k xs) m)
 
 pub going-on : (file table kinds streams : List ℕ) (requests : List ℤ) (n : ℕ) {before rows : List ℕ} {w : Walker} {i at : ℕ}
     → Going file table kinds streams requests n before rows w i at → i < n → (row : Row) (v : Walker)
     → rowAnswer file row ≡ call file table w (callOf (getD kinds i 0) (getD streams i 0) (getD requests i (pos 0))) .answer
+    → row ≡ rowOf w (call file table w (callOf (getD kinds i 0) (getD streams i 0) (getD requests i (pos 0))) .answer)
     → v ≡ call file table w (callOf (getD kinds i 0) (getD streams i 0) (getD requests i (pos 0))) .walker
     → {more : List ℕ} → more ≡ put rows at (rowWords row) → Going file table kinds streams requests n before more v (i + 1) (at + 6)
-unfolding answers after callsFrom answersIn
-going-on file table kinds streams requests n {before} {rows} {w} {i} {at} g l row v a e {more} p =
+unfolding answers after callsFrom answersIn rowsOf
+going-on file table kinds streams requests n {before} {rows} {w} {i} {at} g l row v a is e {more} p =
     let z : n - i ≡ suc (n - (i + 1)) = omega arith in
     let s : i + 1 ≡ suc i = omega arith in
     let fits : i * 6 + 6 ≤ length rows = omega (arith, g .room) in
@@ -91,13 +80,19 @@ going-on file table kinds streams requests n {before} {rows} {w} {i} {at} g l ro
           ∙ ap (λ (u : Walker). answersIn file rows i ++ (call file table w (callOf (getD kinds i 0) (getD streams i 0) (getD requests i (pos 0))) .answer ∷ answers file table u (callsFrom kinds streams requests (i + 1) (n - (i + 1))))) e
           ∙ ap (λ (k : ℕ). answersIn file rows i ++ answers file table w (callsFrom kinds streams requests i k)) (sym z)
           ∙ g .says;
-      others = ap (drop (n * 6)) q ∙ drop-put rows (i * 6) (rowWords row) (n * 6) (omega arith) (g .room) ∙ g .others;
+      rows-are =
+          ap (λ (l : List ℕ). put l (at + 6) (rowsOf file table v (callsFrom kinds streams requests (i + 1) (n - (i + 1))))) p
+          ∙ put-put rows at (rowWords row) (rowsOf file table v (callsFrom kinds streams requests (i + 1) (n - (i + 1)))) (omega (arith, fits, g .at-is))
+          ∙ ap (λ (r : Row). put rows at (rowWords r ++ rowsOf file table v (callsFrom kinds streams requests (i + 1) (n - (i + 1))))) is
+          ∙ ap (λ (u : Walker). put rows at (rowWords (rowOf w (call file table w (callOf (getD kinds i 0) (getD streams i 0) (getD requests i (pos 0))) .answer)) ++ rowsOf file table u (callsFrom kinds streams requests (i + 1) (n - (i + 1))))) e
+          ∙ ap (λ (k : ℕ). put rows at (rowsOf file table w (callsFrom kinds streams requests i k))) (sym z)
+          ∙ g .rows-are;
     }
 
 pub going-last : (file table kinds streams : List ℕ) (requests : List ℤ) (n : ℕ) {before rows : List ℕ} {w : Walker} {i at : ℕ}
     → Going file table kinds streams requests n before rows w i at → n ≤ i → Run file table (callsFrom kinds streams requests 0 n) n before w rows
-unfolding answers after callsFrom
-going-last file table kinds streams requests n {before} {rows} {w} {i} g l =
+unfolding answers after callsFrom rowsOf
+going-last file table kinds streams requests n {before} {rows} {w} {i} {at} g l =
     let e : i ≡ n = omega (arith, g .at-most) in
     let z : n - i ≡ 0 = omega arith in
     record {
@@ -106,7 +101,10 @@ going-last file table kinds streams requests n {before} {rows} {w} {i} g l =
       said-are =
           ap (answersIn file rows) (sym e) ∙ sym (append-nil (answersIn file rows i))
           ∙ ap (λ (k : ℕ). answersIn file rows i ++ answers file table w (callsFrom kinds streams requests i k)) (sym z) ∙ g .says;
-      others = g .others;
+      rows-are =
+          sym (put-nothing rows at)
+          ∙ ap (λ (k : ℕ). put rows at (rowsOf file table w (callsFrom kinds streams requests i k))) (sym z)
+          ∙ g .rows-are;
     }
 
 pub agreed : (file table : List ℕ) (calls : List Call) (n : ℕ) {before : List ℕ} (rows : List ℕ) {w : Walker} → Run file table calls n before w rows

@@ -6,14 +6,17 @@ use mathlib.Core.List.{List, [], _∷_, _++_}
 use lib.Dec.{eqb}
 use lib.IntN.{ℤ, pos}
 use lib.ListN.{length, getD, drop}
-use Rattle.error.specs.Answer.{accepted, refused, numbered}
-use Rattle.fields.specs.Le.{Bytes}
-use Rattle.demuxer.specs.Packet.{shownOf}
-use Rattle.demuxer.specs.Read.{packet, End, fresh, saidNext}
+use mathlib.Core.Option.{Option, none, some}
+use Rattle.error.specs.Answer.{Answer, accepted, refused, numbered}
+use Rattle.error.specs.Refusal.{refusalOf}
+use Rattle.fields.specs.Le.{Bytes, put}
+use Rattle.demuxer.specs.Packet.{Shown, shownOf}
+use Rattle.demuxer.specs.Read.{ReadAnswer, packet, End, fresh}
 use Rattle.demuxer.specs.declared.walker.NextPacket.{NextPacket}
+use Rattle.demuxer.specs.declared.walker.NextPacket.the-variants as next
 use Rattle.demuxer.specs.declared.packet.Packet.{Packet}
-use Rattle.seek.specs.Seek.{saidSeek}
 use Rattle.seek.specs.declared.SeekResult.{SeekResult}
+use Rattle.seek.specs.declared.SeekResult.the-variants.{Ok, Err}
 use Rattle.demuxer.specs.Read as read-answer
 use Rattle.demuxer.specs.declared.walker.Walker.{Walker}
 use Rattle.demuxer.specs.declared.packet.PacketDuration.{PacketDuration}
@@ -21,7 +24,7 @@ use Rattle.demuxer.specs.declared.packet.PacketDuration.the-variants.{Ticks, No
 use Rattle.chunk_index.specs.Chunks.{Chunk}
 use Rattle.recording.specs.Grammar.{Finished}
 use Rattle.recording.specs.Drain.{drain}
-use Rattle.recording.specs.Machine.{Call, read, seek, CallAnswer, readAnswer, seekAnswer, answers, after, machineSays, machineAfter, AllAgree, Left, AtChunk, OwnIndex}
+use Rattle.recording.specs.Machine.{Call, read, seek, CallAnswer, readAnswer, seekAnswer, call, answers, after, machineSays, machineAfter, AllAgree, Left, AtChunk, OwnIndex}
 use Rattle.replay.specs.declared.Row.{Row}
 use Rattle.replay.specs.declared.Ran.{Ran}
 use Rattle.replay.specs.declared.Ran.the-variants.{Done, Unequal, NoRoom}
@@ -46,12 +49,51 @@ rowWords r = r .said ∷ r .first ∷ r .second ∷ r .third ∷ r .fourth ∷ r
 abbrev pub refusalRow : ℕ → ℕ → ℕ → Row
 refusalRow said number place = record { said = said; first = number; second = place; third = 0; fourth = 0; fifth = 0 }
 
--- the packet of a row: stream, where its payload starts in the file, the payload's length, stamp
+-- what the code's answers are as rows; a packet's by its duration
+abbrev pub durationRow : Packet → PacketDuration → Row
+durationRow p (Ticks n) = record { said = 1; first = p .stream; second = p .start; third = p .len; fourth = p .stamp; fifth = n }
+durationRow p None = record { said = 2; first = p .stream; second = p .start; third = p .len; fourth = p .stamp; fifth = 0 }
+
+abbrev pub nextRow : NextPacket → Row
+nextRow (next.Packet p) = durationRow p (p .duration)
+nextRow next.End = refusalRow 0 0 0
+nextRow (next.Err e) = refusalRow 3 (refusalOf e .number) (refusalOf e .place)
+
+abbrev pub stampRow : ℕ → Row
+stampRow stamp = record { said = 4; first = stamp; second = 0; third = 0; fourth = 0; fifth = 0 }
+
+abbrev pub seekRow : SeekResult → Row
+seekRow (Ok stamp) = stampRow stamp
+seekRow (Err e) = refusalRow 5 (refusalOf e .number) (refusalOf e .place)
+
+-- the row of an answer to a call that a walker got: a packet's payload starts past the 8 bytes at that walker's cursor
+abbrev pub ticksRow : ℕ → Shown → Option ℕ → Row
+ticksRow start p (some n) = record { said = 1; first = p .stream; second = start; third = length (p .payload); fourth = p .stamp; fifth = n }
+ticksRow start p none = record { said = 2; first = p .stream; second = start; third = length (p .payload); fourth = p .stamp; fifth = 0 }
+
+abbrev pub readRow : Walker → ReadAnswer → Row
+readRow w (packet p) = ticksRow (w .position .cursor + 8) p (p .duration)
+readRow w End = refusalRow 0 0 0
+readRow w (read-answer.refused r) = refusalRow 3 (r .number) (r .place)
+
+abbrev pub soughtRow : Answer ℕ → Row
+soughtRow (accepted stamp) = stampRow stamp
+soughtRow (refused r) = refusalRow 5 (r .number) (r .place)
+
+abbrev pub rowOf : Walker → CallAnswer → Row
+rowOf w (readAnswer a) = readRow w a
+rowOf w (seekAnswer a) = soughtRow a
+
+-- the numbers of all rows, in the order of the calls
+unfoldable pub rowsOf : List ℕ → List ℕ → Walker → List Call → List ℕ
+rowsOf file table w [] = []
+rowsOf file table w (c ∷ cs) = rowWords (rowOf w (call file table w c .answer)) ++ rowsOf file table (call file table w c .walker) cs
+
+-- the other way round, the answer that a row says: a packet's payload is the part of the file that the row names
 abbrev pub packetAnswer : List ℕ → Row → PacketDuration → CallAnswer
 packetAnswer file r d =
     readAnswer (packet (shownOf file (record { stream = r .first; start = r .second; len = r .third; stamp = r .fourth; duration = d })))
 
--- the answer that a row says
 unfoldable pub rowAnswer : List ℕ → Row → CallAnswer
 rowAnswer file r =
     cond (eqb (r .said) 0) (readAnswer End)
@@ -59,16 +101,6 @@ rowAnswer file r =
     (cond (eqb (r .said) 2) (packetAnswer file r None)
     (cond (eqb (r .said) 3) (readAnswer (read-answer.refused (numbered (r .first) (r .second))))
     (cond (eqb (r .said) 4) (seekAnswer (accepted (r .first))) (seekAnswer (refused (numbered (r .first) (r .second))))))))
-
--- a row says a packet, a read's answer, a seek's, whatever the file
-abbrev pub SaysPacket : Packet → Row → Type 0
-SaysPacket p r = (file : List ℕ) → rowAnswer file r ≡ readAnswer (packet (shownOf file p))
-
-abbrev pub SaysRead : NextPacket → Row → Type 0
-SaysRead a r = (file : List ℕ) → rowAnswer file r ≡ readAnswer (saidNext file a)
-
-abbrev pub SaysSeek : SeekResult → Row → Type 0
-SaysSeek a r = (file : List ℕ) → rowAnswer file r ≡ seekAnswer (saidSeek a)
 
 -- the row that stands at an offset
 abbrev pub rowAt : List ℕ → ℕ → Row
@@ -87,12 +119,12 @@ unfoldable pub answersIn : List ℕ → List ℕ → ℕ → List CallAnswer
 answersIn file rows zero = []
 answersIn file rows (suc n) = answersIn file rows n ++ (rowAnswer file (rowAt rows (n * 6)) ∷ [])
 
--- what a run of n calls leaves: the last call's walker, the calls' answers in order, every other number as it was
+-- what a run of n calls leaves: the last call's walker, the calls' answers in order, and every number of the rows and after them
 pub record Run (file table : List ℕ) (calls : List Call) (n : ℕ) (rows : List ℕ) (w : Walker) (left : List ℕ) : Type 0 where
   pub room : n * 6 ≤ length rows
   pub walker-is : w ≡ after file table fresh calls
   pub said-are : answersIn file left n ≡ answers file table fresh calls
-  pub others : drop (n * 6) left ≡ drop (n * 6) rows
+  pub rows-are : left ≡ put rows 0 (rowsOf file table fresh calls)
 
 -- the three slices are of one length
 abbrev pub equal : List ℕ → List ℕ → List ℤ → Bool

@@ -10,7 +10,7 @@ ghost use Prim.Native.Nat.{_+_, _≤_};
 ghost use lib.ListN.{length};
 ghost use Rattle.fields.specs.Le.{put};
 ghost use Rattle.recording.specs.Machine.{call};
-ghost use Rattle.replay.specs.Replay.{rowWords, rowAnswer, refusalRow, SaysPacket, SaysRead, SaysSeek, callOf, Replayed, Compared};
+ghost use Rattle.replay.specs.Replay.{rowWords, rowAnswer, rowOf, refusalRow, durationRow, nextRow, seekRow, callOf, Replayed, Compared};
 
 // An answer as six numbers: what it is, and its values.
 pub struct Row {
@@ -82,7 +82,7 @@ fn refusal_row(said: u64, number: u32, place: u64) -> Row
 }
 
 fn packet_row(packet: Packet) -> Row
-    ensures { λ r. ⌜ SaysPacket packet r ⌝ }
+    ensures { λ r. ⌜ r ≡ durationRow packet (packet .duration) ⌝ }
 {
     let mut row = Row {
         said: Row::PACKET_NO_DURATION,
@@ -101,7 +101,7 @@ fn packet_row(packet: Packet) -> Row
 }
 
 fn read_row(answer: NextPacket) -> Row
-    ensures { λ r. ⌜ SaysRead answer r ⌝ }
+    ensures { λ r. ⌜ r ≡ nextRow answer ⌝ }
 {
     match answer {
         NextPacket::Packet(packet) => packet_row(packet),
@@ -111,7 +111,7 @@ fn read_row(answer: NextPacket) -> Row
 }
 
 fn seek_row(result: SeekResult) -> Row
-    ensures { λ r. ⌜ SaysSeek result r ⌝ }
+    ensures { λ r. ⌜ r ≡ seekRow result ⌝ }
 {
     match result {
         SeekResult::Ok(stamp) => Row {
@@ -135,6 +135,7 @@ fn run_call(
     request: i64,
 ) -> Called
     ensures { λ r. ⌜ rowAnswer (now (file .entry)) (r .row) ≡ call (now (file .entry)) (now (table .entry)) walker (callOf kind stream request) .answer ⌝ }
+    ensures { λ r. ⌜ r .row ≡ rowOf walker (call (now (file .entry)) (now (table .entry)) walker (callOf kind stream request) .answer) ⌝ }
     ensures { λ r. ⌜ r .walker ≡ call (now (file .entry)) (now (table .entry)) walker (callOf kind stream request) .walker ⌝ }
 {
     if kind == READ {

@@ -8,7 +8,7 @@ use borrow.Author.Tests.{le-leb, eqb-false}
 use lib.Dec.{eqb}
 use lib.ListN.{length, replicate, drop, length-drop}
 use lib.Seq.{length-take-le}
-use Rattle.error.specs.Answer.{Answer, accepted, refused}
+use Rattle.error.specs.Answer.{Answer, accepted, refused, numberOf}
 use Rattle.error.specs.Refusal.{refusalOf}
 use Rattle.error.specs.declared.Refusal.{Refusal}
 use Rattle.error.specs.declared.AmvError.{AmvError}
@@ -19,7 +19,7 @@ use Rattle.demuxer.specs.declared.packet.Packet.{Packet}
 use Rattle.demuxer.specs.declared.walker.Walker.{Walker}
 use Rattle.demuxer.specs.declared.walker.NextPacket.{NextPacket}
 use Rattle.demuxer.specs.declared.walker.NextPacket.the-variants as next
-use Rattle.words.specs.Out.{Says, Accepted, numberOf, outOf, packetWords, packetOut}
+use Rattle.words.specs.Out.{Says, Accepted, outOf, packetWords, packetOut}
 
 -- ---- what a call says
 

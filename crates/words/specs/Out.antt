@@ -4,7 +4,7 @@ use Prim.Native.Nat.{ℕ, _+_, _-_}
 use mathlib.Core.List.{List, [], _∷_}
 use mathlib.Core.Option.{Option, none, some}
 use lib.ListN.{length, replicate}
-use Rattle.error.specs.Answer.{Answer, accepted, refused, andThen}
+use Rattle.error.specs.Answer.{Answer, accepted, refused, numberOf, andThen}
 use Rattle.demuxer.specs.Packet.{Shown, ticks}
 use Rattle.demuxer.specs.Read.{ReadAnswer, packet, End}
 use Rattle.demuxer.specs.Read as read
@@ -12,11 +12,6 @@ use Rattle.demuxer.specs.declared.packet.Packet.{Packet}
 use Rattle.demuxer.specs.declared.packet.PacketDuration.{PacketDuration}
 use Rattle.demuxer.specs.declared.walker.Walker.{Walker}
 use Rattle.prelude.specs.declared.prelude.AmvPrelude.{AmvPrelude}
-
--- 01's number for a refusal, 0 for an accepted call
-abbrev pub numberOf : {A : Type 0} → Answer A → ℕ
-numberOf (accepted x) = 0
-numberOf (refused r) = r .number
 
 -- an answer as words: 0 and what the call gives, or the place and nothing else
 abbrev pub outOf : ℕ → Answer (List ℕ) → List ℕ

@@ -1,4 +1,5 @@
-use Rattle.replay.proofs.Laws.{packet-ticks, packet-none}
+use mathlib.Core.Path.{sym, ap}
+use Rattle.replay.specs.Replay.{durationRow}
 use borrow.Author.Needs.{needs}
 use Rattle.replay.proofs.packet_row.Statement.{statement}
 use Rattle.replay.proofs.packet_row.Tie as tie
@@ -18,11 +19,11 @@ enum-told c = search needs
 
 -- src/lib.rt:79:1
 returns : tie.Need-returns
-returns c = packet-ticks _ _ (c .before .duration .given .1)
+returns c = sym (ap (durationRow _) (c .before .duration .given .1))
 
 -- src/lib.rt:79:1
 returns-2 : tie.Need-returns-2
-returns-2 c = packet-none _ (c .enum-told .given .1)
+returns-2 c = sym (ap (durationRow _) (c .enum-told .given .1))
 
 pub packet-row-spec : {M : Type 1} → statement M
 packet-row-spec = tie.close (tie.spec cast-t5 enum-known-duration enum-told returns returns-2)

@@ -1,4 +1,5 @@
-use Rattle.replay.proofs.Laws.{says-packet, says-end, says-read-refused}
+use mathlib.Core.Path.{sym, ap, _∙_}
+use Rattle.replay.specs.Replay.{nextRow, refusalRow}
 use borrow.Author.Needs.{needs}
 use Rattle.replay.proofs.read_row.Statement.{statement}
 use Rattle.replay.proofs.read_row.Tie as tie
@@ -43,15 +44,16 @@ refusal-row-requires-2 c κs = search needs
 
 -- src/lib.rt:98:1
 returns : tie.Need-returns
-returns c = says-packet _ (c .before .before .answer .given .1) (c .packet-row .ensures)
+returns c = c .packet-row .ensures ∙ sym (ap nextRow (c .before .before .answer .given .1))
 
 -- src/lib.rt:98:1
 returns-2 : tie.Need-returns-2
-returns-2 c = says-end (c .before .enum-told .given .1) (c .refusal-row .ensures)
+returns-2 c = c .refusal-row .ensures ∙ sym (ap nextRow (c .before .enum-told .given .1))
 
 -- src/lib.rt:98:1
 returns-3 : tie.Need-returns-3
-returns-3 c = says-read-refused (c .before .before .before .before .answer2 .given .1) (c .before .before .number .ensures) (c .before .place .ensures) (c .refusal-row2 .ensures)
+returns-3 c =
+    c .refusal-row2 .ensures ∙ (λ i. refusalRow 3 (c .before .before .number .ensures i) (c .before .place .ensures i)) ∙ sym (ap nextRow (c .before .before .before .before .answer2 .given .1))
 
 pub read-row-spec : {M : Type 1} → statement M
 read-row-spec =

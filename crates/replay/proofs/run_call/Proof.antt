@@ -26,7 +26,7 @@ returns : tie.Need-returns
 returns c =
     let a = c .before .before .before .before .before .before .args in
     read-called (a .file .now) (a .table .now) (a .walker) (a .kind) (a .stream) (a .request) (c .before .before .next-packet .result) _ (c .before .before .before .if1 .taken)
-    (c .before .before .next-packet .ensures .0) (c .read-row .ensures)
+    (c .before .before .next-packet .ensures .0) (c .before .before .next-packet .ensures .1) (c .read-row .ensures)
 
 -- src/lib.rt:137:9
 seek-to-via-index-requires : tie.Need-seek-to-via-index-requires

@@ -4,7 +4,7 @@ use mir.Val.{toZ, ofZ}
 use lib.IntN.{ℤ, pos}
 use lib.ListN.{getD}
 use Rattle.recording.specs.Machine.{call}
-use Rattle.replay.specs.Replay.{callOf}
+use Rattle.replay.specs.Replay.{callOf, rowOf}
 use mathlib.Core.Path.{_≡_, refl, sym, ap, _∙_}
 use lib.ListN.{length}
 use Prim.Native.Nat.{_-_}
@@ -108,7 +108,9 @@ loop-again c =
     going-on (a .file .now) (a .table .now) (a .kinds .now) (a .streams .now) (a .requests .now) (length (a .kinds .now)) (l .inv) (c .before .before .before .before .before .before .before .before .before .before .loop-test .taken) _ _
     (c .before .before .before .before .before .before .run-call .ensures .0
     ∙ ap (λ (y : ℤ). call (a .file .now) (a .table .now) (l .walker) (callOf (getD (a .kinds .now) (l .i) 0) (getD (a .streams .now) (l .i) 0) y) .answer) same)
-    (c .before .before .before .before .before .before .run-call .ensures .1
+    (c .before .before .before .before .before .before .run-call .ensures .1 .0
+    ∙ ap (λ (y : ℤ). rowOf (l .walker) (call (a .file .now) (a .table .now) (l .walker) (callOf (getD (a .kinds .now) (l .i) 0) (getD (a .streams .now) (l .i) 0) y) .answer)) same)
+    (c .before .before .before .before .before .before .run-call .ensures .1 .1
     ∙ ap (λ (y : ℤ). call (a .file .now) (a .table .now) (l .walker) (callOf (getD (a .kinds .now) (l .i) 0) (getD (a .streams .now) (l .i) 0) y) .walker) same)
     (c .before .before .before .put .ensures)
 

@@ -1,4 +1,5 @@
-use Rattle.replay.proofs.Laws.{says-stamp, says-seek-refused}
+use mathlib.Core.Path.{sym, ap, _∙_}
+use Rattle.replay.specs.Replay.{seekRow, refusalRow}
 use borrow.Author.Needs.{needs}
 use Rattle.replay.proofs.seek_row.Statement.{statement}
 use Rattle.replay.proofs.seek_row.Tie as tie
@@ -30,11 +31,12 @@ refusal-row-requires c κs = search needs
 
 -- src/lib.rt:108:1
 returns : tie.Need-returns
-returns c = says-stamp (c .before .result .given .1)
+returns c = sym (ap seekRow (c .before .result .given .1))
 
 -- src/lib.rt:108:1
 returns-2 : tie.Need-returns-2
-returns-2 c = says-seek-refused (c .before .before .before .before .result2 .given .1) (c .before .before .number .ensures) (c .before .place .ensures) (c .refusal-row .ensures)
+returns-2 c =
+    c .refusal-row .ensures ∙ (λ i. refusalRow 5 (c .before .before .number .ensures i) (c .before .place .ensures i)) ∙ sym (ap seekRow (c .before .before .before .before .result2 .given .1))
 
 pub seek-row-spec : {M : Type 1} → statement M
 seek-row-spec =

@@ -10,7 +10,7 @@ use Rattle.muxer.proofs.Settings.put_prelude.Statement.{statement}
 use Rattle.muxer.proofs.Settings.put_prelude.Tie as tie
 use Rattle.muxer.proofs.Settings.put_prelude.Reads as reads
 use Rattle.muxer.proofs.Settings.put_prelude.Lts as lts
-use Rattle.muxer.proofs.copy_in.Reads as copy-in-reads
+use Rattle.fields.proofs.copy_in.Reads as copy-in-reads
 use Rattle.prelude.proofs.build.build_prelude_bytes.Reads as build-prelude-bytes-reads
 
 -- src/lib.rt:109:13

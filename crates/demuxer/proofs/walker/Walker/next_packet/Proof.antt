@@ -28,19 +28,25 @@ in-range-requires c κs = search needs
 -- src/walker.rt:172:13
 returns-2 : tie.Need-returns-2
 unfolding readOf
-returns-2 c = (rw (
-  sym (c .before .before .before .before .within-limit .ensures) ∙ not-false _ (c .before .before .before .if1 .left),
-  sym (c .before .in-range .ensures) ∙ not-true _ (c .if2 .taken),
-), tt)
+returns-2 c = (
+  rw (
+    sym (c .before .before .before .before .within-limit .ensures) ∙ not-false _ (c .before .before .before .if1 .left),
+    sym (c .before .in-range .ensures) ∙ not-true _ (c .if2 .taken),
+  ),
+  tt,
+)
 
 -- src/walker.rt:178:13
 returns-3 : tie.Need-returns-3
 unfolding readOf
-returns-3 c = (rw (
-  sym (c .before .before .before .before .before .within-limit .ensures) ∙ not-false _ (c .before .before .before .before .if1 .left),
-  sym (c .before .before .in-range .ensures) ∙ not-false _ (c .before .if2 .left),
-  c .if3 .taken,
-), tt)
+returns-3 c = (
+  rw (
+    sym (c .before .before .before .before .before .within-limit .ensures) ∙ not-false _ (c .before .before .before .before .if1 .left),
+    sym (c .before .before .in-range .ensures) ∙ not-false _ (c .before .if2 .left),
+    c .if3 .taken,
+  ),
+  tt,
+)
 
 -- src/walker.rt:183:9
 read-chunk-requires : tie.Need-read-chunk-requires
@@ -49,11 +55,13 @@ read-chunk-requires c κs = range-facts _ (sym (c .before .before .in-range .ens
 -- src/walker.rt:161:5
 returns-4 : tie.Need-returns-4
 returns-4 c =
-    let a = c .before .before .before .before .before .before .before .before .args in
-    (c .read-chunk .ensures .0
-    ∙ sym
-    (read-on (a .file .now) (a .self) (sym (c .before .before .before .before .before .before .within-limit .ensures) ∙ not-false _ (c .before .before .before .before .before .if1 .left))
-    (sym (c .before .before .before .in-range .ensures) ∙ not-false _ (c .before .before .if2 .left)) (c .before .if3 .left)), c .read-chunk .ensures .1)
+    let a = c .before .before .before .before .before .before .before .before .args in (
+      c .read-chunk .ensures .0
+          ∙ sym
+          (read-on (a .file .now) (a .self) (sym (c .before .before .before .before .before .before .within-limit .ensures) ∙ not-false _ (c .before .before .before .before .before .if1 .left))
+          (sym (c .before .before .before .in-range .ensures) ∙ not-false _ (c .before .before .if2 .left)) (c .before .if3 .left)),
+      c .read-chunk .ensures .1,
+    )
 
 pub next-packet-spec : {M : Type 1} → statement M
 next-packet-spec =

@@ -1,0 +1,308 @@
+//! Recordings that this wrapper writes, cuts and damages, and what it reads from them.
+
+use amv::*;
+
+const SETTINGS: Settings = Settings {
+    width: 64,
+    height: 48,
+    fps: 12,
+    rate: 8000,
+    channels: 1,
+};
+
+/// A sound block of a number of samples.
+fn block(samples: u32, fill: u8) -> Vec<u8> {
+    let mut bytes = vec![fill; 4];
+    bytes.extend_from_slice(&samples.to_le_bytes());
+    bytes.extend(std::iter::repeat(fill).take(samples as usize / 2));
+    bytes
+}
+
+/// Pictures and blocks of different lengths, some odd, one empty.
+fn packets() -> Vec<(u32, Vec<u8>)> {
+    (0..6u8)
+        .flat_map(|n| {
+            [
+                (0, vec![n; [3, 0, 17, 8, 5, 1][n as usize]]),
+                (1, block(10 + u32::from(n), n)),
+            ]
+        })
+        .collect()
+}
+
+fn write(packets: &[(u32, Vec<u8>)]) -> Vec<u8> {
+    let mut buf = vec![0xA5; 4096];
+    let mut muxer = AmvMuxer::new(SETTINGS, &mut buf);
+    muxer.write_header().unwrap();
+    for (stream, data) in packets {
+        muxer.write_packet(*stream, data).unwrap();
+    }
+    muxer.write_trailer().unwrap();
+    muxer.file().to_vec()
+}
+
+fn drain<'a>(demuxer: &mut AmvDemuxer<'a>) -> Vec<Packet<'a>> {
+    std::iter::from_fn(|| demuxer.next_packet().unwrap()).collect()
+}
+
+fn sent(packets: &[Packet]) -> Vec<(u32, Vec<u8>)> {
+    packets
+        .iter()
+        .map(|p| (p.stream_index, p.data.to_vec()))
+        .collect()
+}
+
+/// 01's small file.
+fn small() -> Vec<u8> {
+    let settings = Settings {
+        width: 8,
+        height: 8,
+        ..SETTINGS
+    };
+    let mut buf = vec![0; 353];
+    let mut muxer = AmvMuxer::new(settings, &mut buf);
+    muxer.write_header().unwrap();
+    muxer.write_packet(0, &[1, 2, 3]).unwrap();
+    muxer
+        .write_packet(1, &[0, 0, 0, 0, 2, 0, 0, 0, 9, 9])
+        .unwrap();
+    muxer.write_trailer().unwrap();
+    assert_eq!(muxer.bytes_written(), 353);
+    buf
+}
+
+#[test]
+fn what_is_written_is_read() {
+    let packets = packets();
+    let file = write(&packets);
+    let mut demuxer = AmvDemuxer::open_strict(&file).unwrap();
+    assert_eq!(demuxer.header().width, 64);
+    assert_eq!(demuxer.header().height, 48);
+    assert_eq!(demuxer.header().fps, 12);
+    assert_eq!(demuxer.audio_format().samples_per_sec, 8000);
+    let read = drain(&mut demuxer);
+    assert_eq!(sent(&read), packets);
+    assert_eq!(
+        read.iter().map(|p| p.pts).collect::<Vec<_>>(),
+        [0, 0, 1, 10, 2, 21, 3, 33, 4, 46, 5, 60]
+    );
+    assert_eq!(read[1].duration, Some(10));
+    assert_eq!(demuxer.trailer_offset(), Some(file.len() as u64 - 8));
+    assert_eq!(demuxer.trailer_matches_eof(), Some(true));
+    assert!(demuxer.movi_interleave_balanced() && !demuxer.is_truncated());
+    let totals = check(&file).unwrap();
+    assert_eq!(
+        (totals.frames, totals.blocks, totals.samples, totals.paired),
+        (6, 6, 75, true)
+    );
+}
+
+#[test]
+fn every_jump_has_its_own_sound_and_clock() {
+    let file = write(&packets());
+    let mut demuxer = AmvDemuxer::open(&file).unwrap();
+    let all = drain(&mut demuxer);
+    // Jumps in an order that goes back and forth, each followed by all that is left.
+    for request in [5i64, 0, 3, -7, 1, 4, 2, 9, 0] {
+        for stream in [0u32, 1] {
+            let first = all
+                .iter()
+                .position(|p| p.stream_index == stream && p.pts as i64 >= request);
+            let stamp = demuxer.seek_to(stream, request).unwrap();
+            match first {
+                Some(k) => {
+                    assert_eq!(stamp, all[k].pts);
+                    assert_eq!(drain(&mut demuxer), all[k..]);
+                }
+                None => assert_eq!(demuxer.next_packet(), Ok(None)),
+            }
+        }
+    }
+    let before = demuxer.cursor();
+    assert_eq!(
+        demuxer.seek_to(2, 0),
+        Err(AmvError {
+            number: 42,
+            place: 0
+        })
+    );
+    assert_eq!(demuxer.cursor(), before);
+}
+
+#[test]
+fn every_cut_is_told_and_leaves_the_packets_before_it() {
+    let packets = packets();
+    let file = write(&packets);
+    let mut ends = vec![316];
+    for (_, data) in &packets {
+        ends.push(ends.last().unwrap() + 8 + data.len());
+    }
+    for len in 0..file.len() {
+        let cut = &file[..len];
+        let refused = check(cut).unwrap_err();
+        if len < 316 {
+            assert_eq!(refused.number, 11);
+            assert!(AmvDemuxer::open(cut).is_err());
+            continue;
+        }
+        let whole = ends.iter().filter(|end| **end <= len).count() - 1;
+        assert_eq!(
+            refused,
+            AmvError {
+                number: 60,
+                place: ends[whole] as u64
+            }
+        );
+        let mut demuxer = AmvDemuxer::open(cut).unwrap();
+        assert_eq!(sent(&drain(&mut demuxer)), packets[..whole]);
+        assert!(demuxer.is_truncated());
+        assert_eq!(demuxer.trailer_offset(), None);
+    }
+}
+
+#[test]
+fn every_damaged_byte_is_told_or_changes_only_what_it_holds() {
+    let file = small();
+    for at in 0..file.len() {
+        for value in [0, 1, 0x30, 0x7F, 0xFF] {
+            let mut damaged = file.clone();
+            damaged[at] = value;
+            // Nothing here may panic, and an accepted file reads to its end.
+            if let Ok(totals) = check(&damaged) {
+                let mut demuxer = AmvDemuxer::open_strict(&damaged).unwrap();
+                let read = drain(&mut demuxer);
+                assert_eq!(read.len() as u64, totals.frames + totals.blocks);
+                assert_eq!(demuxer.trailer_offset(), Some(totals.trailer));
+            }
+        }
+    }
+    let mut longer = file.clone();
+    longer.push(0);
+    assert_eq!(
+        check(&longer),
+        Err(AmvError {
+            number: 61,
+            place: 345
+        })
+    );
+}
+
+#[test]
+fn a_refused_call_writes_nothing() {
+    let mut buf = vec![0xA5; 330];
+    let mut muxer = AmvMuxer::new(SETTINGS, &mut buf);
+    assert_eq!(
+        muxer.write_trailer(),
+        Err(AmvError {
+            number: 51,
+            place: 0
+        })
+    );
+    muxer.write_header().unwrap();
+    assert_eq!(
+        muxer.write_header(),
+        Err(AmvError {
+            number: 50,
+            place: 316
+        })
+    );
+    assert_eq!(
+        muxer.write_packet(2, &[]),
+        Err(AmvError {
+            number: 53,
+            place: 316
+        })
+    );
+    assert_eq!(
+        muxer.write_packet(0, &[1; 7]),
+        Err(AmvError {
+            number: 54,
+            place: 316
+        })
+    );
+    assert_eq!((muxer.bytes_written(), muxer.frames_written()), (316, 0));
+    muxer.write_packet(0, &[1; 6]).unwrap();
+    assert_eq!(
+        muxer.write_trailer(),
+        Err(AmvError {
+            number: 54,
+            place: 330
+        })
+    );
+    assert_eq!(
+        buf[316..],
+        [b'0', b'0', b'd', b'c', 6, 0, 0, 0, 1, 1, 1, 1, 1, 1]
+    );
+}
+
+#[test]
+fn the_other_calls() {
+    let file = small();
+    assert_eq!(
+        summary(&file),
+        Ok(ChunkCounts {
+            frames: 1,
+            blocks: 1
+        })
+    );
+    let index = ChunkIndex::build(&file).unwrap();
+    let entries: Vec<_> = index.entries().collect();
+    assert_eq!(
+        entries,
+        [
+            ChunkIndexEntry {
+                tag: VIDEO_CHUNK_TAG,
+                offset: 316,
+                frames: 0,
+                blocks: 0,
+                samples: 0
+            },
+            ChunkIndexEntry {
+                tag: AUDIO_CHUNK_TAG,
+                offset: 327,
+                frames: 1,
+                blocks: 0,
+                samples: 0
+            },
+        ]
+    );
+    let mut demuxer = AmvDemuxer::open(&file).unwrap();
+    let ragged = ChunkIndex::from_records(index.records()[..25].to_vec());
+    assert_eq!(
+        demuxer.seek_to_via_index(&ragged, 0, 0),
+        Err(AmvError {
+            number: 41,
+            place: 0
+        })
+    );
+    assert_eq!(demuxer.seek_to_via_index(&index, 1, 1), Ok(0));
+    assert_eq!(
+        (
+            demuxer.cursor(),
+            demuxer.video_frames_emitted(),
+            demuxer.audio_samples_emitted(),
+            demuxer.audio_blocks_emitted()
+        ),
+        (335, 1, 0, 1)
+    );
+    assert!(demuxer.is_at_end());
+    assert_eq!(
+        validate_movi_interleave(&[VIDEO_CHUNK_TAG, VIDEO_CHUNK_TAG]),
+        Err(AmvError {
+            number: 62,
+            place: 1
+        })
+    );
+    assert_eq!(
+        validate_movi_interleave(&[VIDEO_CHUNK_TAG, AUDIO_CHUNK_TAG]),
+        Ok(())
+    );
+    assert_eq!(
+        AmvDuration::from_frame_count(1116, 12),
+        AmvDuration {
+            seconds: 33,
+            minutes: 1,
+            hours: 0
+        }
+    );
+}

@@ -1,0 +1,3 @@
+pub mod Progress
+pub mod Reader
+pub mod Writer

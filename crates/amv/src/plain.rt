@@ -1,0 +1,76 @@
+// The methods for callers that have plain values: the reader or the writer stands in a local, is lent for one call, and is taken apart again.
+use crate::reader::AmvDemuxer;
+use crate::writer::AmvMuxer;
+use demuxer::packet::Packet;
+use demuxer::walker::Read;
+use demuxer::walker::Walker;
+use muxer::Writer;
+use muxer::Wrote;
+use seek::Sought;
+ghost use mathlib.Core.Path.{_≡_};
+ghost use Rattle.demuxer.specs.Packet.{payloadOf};
+ghost use Rattle.demuxer.specs.Read.{saidRead, Placed, readOf};
+ghost use Rattle.seek.specs.Seek.{saidSought, seekOf};
+ghost use Rattle.muxer.specs.Writer.{headerCall, packetCall, trailerCall, Meets};
+
+pub fn next_packet(file: &[u8], walker: Walker) -> Read
+    ensures { λ r. ⌜ (saidRead (now (file .entry)) r ≡ readOf (now (file .entry)) walker) × Placed (now (file .entry)) walker (r .answer) ⌝ }
+{
+    let mut reader = AmvDemuxer { file, walker };
+    let answer = reader.next_packet();
+    Read {
+        answer,
+        walker: reader.walker,
+    }
+}
+
+pub fn seek(file: &[u8], walker: Walker, records: &[u8], stream: u32, request: i64) -> Sought
+    ensures { λ r. ⌜ saidSought r ≡ seekOf (now (records .entry)) walker stream request ⌝ }
+{
+    let mut reader = AmvDemuxer { file, walker };
+    let result = reader.seek(records, stream, request);
+    Sought {
+        result,
+        walker: reader.walker,
+    }
+}
+
+pub fn payload(file: &[u8], packet: Packet) -> &[u8]
+    ensures { λ r. ⌜ now r ≡ payloadOf (now (file .entry)) packet ⌝ }
+{
+    let reader = AmvDemuxer::new(file);
+    reader.payload(packet)
+}
+
+pub fn write_header(writer: Writer, buf: &mut [u8]) -> Wrote
+    ensures { λ r. ⌜ Meets (headerCall writer (now (buf .entry))) r (now (buf .exit)) ⌝ }
+{
+    let mut muxer = AmvMuxer { writer };
+    let result = muxer.write_header(buf);
+    Wrote {
+        result,
+        writer: muxer.writer,
+    }
+}
+
+pub fn write_packet(writer: Writer, buf: &mut [u8], payload: &[u8], stream: u32) -> Wrote
+    ensures { λ r. ⌜ Meets (packetCall writer (now (payload .entry)) stream (now (buf .entry))) r (now (buf .exit)) ⌝ }
+{
+    let mut muxer = AmvMuxer { writer };
+    let result = muxer.write_packet(buf, payload, stream);
+    Wrote {
+        result,
+        writer: muxer.writer,
+    }
+}
+
+pub fn write_trailer(writer: Writer, buf: &mut [u8]) -> Wrote
+    ensures { λ r. ⌜ Meets (trailerCall writer (now (buf .entry))) r (now (buf .exit)) ⌝ }
+{
+    let mut muxer = AmvMuxer { writer };
+    let result = muxer.write_trailer(buf);
+    Wrote {
+        result,
+        writer: muxer.writer,
+    }
+}

@@ -1,0 +1,32 @@
+use mathlib.Core.Path.{sym, ap, _∙_}
+use Rattle.error.specs.Answer.{numberOf}
+use Rattle.error.specs.Refusal.{said}
+use borrow.Author.Needs.{needs}
+use Rattle.error.proofs.AmvResult.number.Statement.{statement}
+use Rattle.error.proofs.AmvResult.number.Tie as tie
+use Rattle.error.proofs.AmvResult.number.Reads as reads
+use Rattle.error.proofs.AmvResult.number.Lts as lts
+use Rattle.error.proofs.AmvError.number.Reads as number-reads
+
+-- src/lib.rt:220:30
+enum-told : tie.Need-enum-told
+enum-told c = search needs
+
+-- src/lib.rt:221:28
+enum-known-self : tie.Need-enum-known-self
+enum-known-self c = search needs
+
+-- src/lib.rt:221:34
+number-requires : tie.Need-number-requires
+number-requires c κs = search needs
+
+-- src/lib.rt:216:5
+returns : tie.Need-returns
+returns c = search needs
+
+-- src/lib.rt:216:5
+returns-2 : tie.Need-returns-2
+returns-2 c = c .number .ensures ∙ sym (ap (λ r. numberOf (said r)) (c .before .before .self .given .1))
+
+pub number-spec : {M : Type 1} → statement M
+number-spec = tie.close (tie.spec enum-told enum-known-self number-requires returns returns-2)

@@ -1,0 +1,74 @@
+use mathlib.Core.Path.{_∙_}
+use mathlib.Core.List.{[], _∷_}
+use Prim.Native.Nat.{_+_}
+use native.Mathlib.Omega.{arith}
+use lib.ListN.{set, length-set}
+use Rattle.error.specs.Answer.{numberOf, placeOf}
+use Rattle.error.specs.Refusal.{said}
+use Rattle.fields.proofs.Laws.{sets, stores-put}
+use borrow.Author.Needs.{needs}
+use Rattle.replay_writes.proofs.put_verdict.Statement.{statement}
+use Rattle.replay_writes.proofs.put_verdict.Tie as tie
+use Rattle.replay_writes.proofs.put_verdict.Reads as reads
+use Rattle.replay_writes.proofs.put_verdict.Lts as lts
+use Rattle.error.proofs.AmvResult.number.Reads as number-reads
+use Rattle.error.proofs.AmvResult.place.Reads as place-reads
+
+-- src/lib.rt:73:20
+number-requires : tie.Need-number-requires
+number-requires c κs = search needs
+
+-- src/lib.rt:73:20
+cast-verdicts : tie.Need-cast-verdicts
+cast-verdicts c = search needs
+
+-- src/lib.rt:73:5
+mul-verdicts : tie.Need-mul-verdicts
+mul-verdicts c = search needs
+
+-- src/lib.rt:73:5
+slice-write-verdicts : tie.Need-slice-write-verdicts
+slice-write-verdicts c = search needs
+
+-- src/lib.rt:74:24
+place-requires : tie.Need-place-requires
+place-requires c κs = search needs
+
+-- src/lib.rt:74:14
+add-verdicts : tie.Need-add-verdicts
+add-verdicts c = search needs
+
+-- src/lib.rt:74:5
+mul-verdicts-2 : tie.Need-mul-verdicts-2
+mul-verdicts-2 c = search needs
+
+-- src/lib.rt:74:5
+slice-write-verdicts-2 : tie.Need-slice-write-verdicts-2
+slice-write-verdicts-2 c = simp length-set (omega arith)
+
+-- src/lib.rt:69:1
+same-length : tie.Need-same-length
+same-length c = search needs
+
+-- src/lib.rt:69:1
+returns : tie.Need-returns
+unfolding sets
+returns c =
+    let a = c .before .before .before .args in
+    (λ i. set (set (a .verdicts .now) (a .at) (c .before .number .ensures i)) (a .at + 1) (c .place .ensures i))
+    ∙ stores-put (a .verdicts .now) (a .at) (numberOf (said (a .result))) (placeOf (said (a .result)) ∷ []) (omega arith)
+
+pub put-verdict-spec : {M : Type 1} → statement M
+put-verdict-spec =
+    tie.close
+    (tie.spec
+    number-requires
+    cast-verdicts
+    mul-verdicts
+    slice-write-verdicts
+    place-requires
+    add-verdicts
+    mul-verdicts-2
+    slice-write-verdicts-2
+    same-length
+    returns)

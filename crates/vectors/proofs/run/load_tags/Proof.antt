@@ -1,0 +1,103 @@
+use mathlib.Core.Path.{_≡_, refl, ap, _∙_}
+use Prim.Native.Nat.{ℕ, _-_}
+use native.Mathlib.Omega.{arith}
+use borrow.Author.Needs.{needs}
+use lib.ListN.{length-set}
+use Rattle.fields.specs.Le.{put}
+use Rattle.vectors.specs.Cases.{tagsIn}
+use Rattle.vectors.proofs.Tags.{Loading, tags-first, tags-more}
+use Rattle.vectors.proofs.run.load_tags.Statement.{statement}
+use Rattle.vectors.proofs.run.load_tags.Tie as tie
+use Rattle.vectors.proofs.run.load_tags.Reads as reads
+use Rattle.vectors.proofs.run.load_tags.Lts as lts
+use Rattle.fields.proofs.read_u32_le.Reads as read-u32-le-reads
+use Rattle.vectors.proofs.run.least.Reads as least-reads
+
+abbrev Inv-loop : tie.InvT-loop
+Inv-loop to₀ bytes count i₀ to i = Loading to₀ bytes count to i
+
+abbrev μ-loop : tie.MeasureT-loop
+μ-loop to₀ bytes count i₀ to i = count - i
+
+-- src/run.rt:100:9
+least-requires : tie.Need-least-requires Inv-loop μ-loop
+least-requires c κs = search needs
+
+-- src/run.rt:102:5
+loop-holds : tie.Need-loop-holds Inv-loop μ-loop
+loop-holds c =
+    let a = c .before .before .before .args in
+    record {
+      at-most = omega arith;
+      room = omega (arith, c .least .ensures);
+      there = omega (arith, c .least .ensures);
+      same = refl;
+      tags = tags-first (a .to .now) (a .bytes .now);
+    }
+
+-- src/run.rt:103:44
+mul-read-u32-le : tie.Need-mul-read-u32-le Inv-loop μ-loop
+mul-read-u32-le c = search needs
+
+-- src/run.rt:103:17
+read-u32-le-requires : tie.Need-read-u32-le-requires Inv-loop μ-loop
+read-u32-le-requires c κs = search needs
+
+-- src/run.rt:103:9
+mul-to : tie.Need-mul-to Inv-loop μ-loop
+mul-to c = search needs
+
+-- src/run.rt:103:9
+slice-write-to : tie.Need-slice-write-to Inv-loop μ-loop
+slice-write-to c = search needs
+
+-- src/run.rt:104:9
+add-i : tie.Need-add-i Inv-loop μ-loop
+add-i c = search needs
+
+-- src/run.rt:102:5
+loop-less : tie.Need-loop-less Inv-loop μ-loop
+loop-less c = search needs
+
+-- src/run.rt:102:5
+loop-again : tie.Need-loop-again Inv-loop μ-loop
+loop-again c =
+    let a = c .before .before .before .before .before .before .args in
+    let l = c .before .before .loop in
+    record {
+      at-most = omega arith;
+      room = l .inv .room;
+      there = l .inv .there;
+      same = simp length-set (l .inv .same);
+      tags = tags-more (a .to .now) (a .bytes .now) (l .i) _ (l .inv .tags) (omega (arith, l .inv .room)) (c .read-u32-le .ensures);
+    }
+
+-- src/run.rt:96:1
+same-length : tie.Need-same-length Inv-loop μ-loop
+same-length c = c .before .loop .inv .same
+
+-- src/run.rt:96:1
+returns : tie.Need-returns Inv-loop μ-loop
+returns c =
+    let a = c .before .before .before .before .before .args in
+    let l = c .before .loop in
+    let e : l .i ≡ c .before .before .least .result = omega (arith, l .inv .at-most) in
+    (c .before .before .least .ensures, l .inv .tags ∙ ap (λ (n : ℕ). put (a .to .now) 0 (tagsIn (a .bytes .now) n)) e)
+
+pub load-tags-spec : {M : Type 1} → statement M
+load-tags-spec =
+    tie.close
+    (tie.spec
+    Inv-loop
+    μ-loop
+    least-requires
+    loop-holds
+    mul-read-u32-le
+    read-u32-le-requires
+    mul-to
+    slice-write-to
+    add-i
+    loop-less
+    loop-again
+    same-length
+    returns)

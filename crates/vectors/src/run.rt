@@ -1,0 +1,225 @@
+// The call of a case.
+use crate::case::Functions;
+use crate::print::print_1;
+use crate::print::print_2;
+use crate::print::print_7;
+use crate::print::print_9;
+use crate::print::print_16;
+use crate::print::print_bytes;
+use crate::print::print_call;
+use crate::print::print_end;
+ghost use mathlib.Core.Path.{_≡_};
+ghost use Prim.Native.Nat.{_/_, min};
+ghost use lib.ListN.{length, take};
+ghost use Rattle.fields.specs.Le.{put};
+ghost use Rattle.vectors.specs.Cases.{requestOf, tagsIn, walkerIn, writerIn};
+
+// The longest table, buffer or list of tags of a case.
+const BYTES_ROOM: usize = 1024;
+
+const TAGS_ROOM: usize = 64;
+
+fn least(a: usize, b: usize) -> usize
+    ensures { λ r. ⌜ r ≡ min a b ⌝ }
+{
+    fields::min(a as u64, b as u64) as usize
+}
+
+// A case's bytes at the front of an array, as many as it has room for.
+fn load(to: &mut [u8], bytes: &[u8]) -> usize
+    ensures { λ r. ⌜ r ≡ min (length (now (to .entry))) (length (now (bytes .entry))) ⌝ }
+    ensures { λ r. ⌜ now (to .exit) ≡ put (now (to .entry)) 0 (take r (now (bytes .entry))) ⌝ }
+{
+    let len = least(to.len(), bytes.len());
+    fields::copy_in(to, 0, &bytes[..len]);
+    len
+}
+
+// Of the requests below 0 the cases have the largest and the smallest, each by a mark.
+fn request_of(request: u64, mark: u64) -> i64
+    ensures { λ r. ⌜ r ≡ requestOf request mark ⌝ }
+{
+    if mark == 1 {
+        return -1;
+    }
+    if mark == 2 {
+        return -9223372036854775808;
+    }
+    (request % 9223372036854775808) as i64
+}
+
+fn run_parse(file: &[u8], head: [u64; 12]) {
+    let mut out = [0u64; 16];
+    let number = capi::amv_parse(file, head[0] == 1, &mut out);
+    print_call(b"parse", number);
+    print_16(out);
+    print_end();
+}
+
+fn walker_of(head: [u64; 12]) -> [u64; 7]
+    ensures { λ r. ⌜ r ≡ walkerIn head ⌝ }
+{
+    [
+        head[3],
+        head[4],
+        head[5],
+        head[6],
+        head[7],
+        head[8],
+        head[9],
+    ]
+}
+
+fn run_next_packet(file: &[u8], head: [u64; 12]) {
+    let mut walker = walker_of(head);
+    let mut out = [0u64; 7];
+    let number = capi::amv_next_packet(file, &mut walker, &mut out);
+    print_call(b"next_packet", number);
+    print_7(out);
+    print_7(walker);
+    print_end();
+}
+
+fn run_seek_to_via_index(table: &[u8], head: [u64; 12]) {
+    let mut walker = walker_of(head);
+    let mut out = [0u64; 2];
+    let stream = (head[0] % 4294967296) as u32;
+    let request = request_of(head[1], head[2]);
+    let number = capi::amv_seek_to_via_index(table, &mut walker, stream, request, &mut out);
+    print_call(b"seek_to_via_index", number);
+    print_2(out);
+    print_7(walker);
+    print_end();
+}
+
+// A case's tags at the front of an array, as many as it has room for.
+fn load_tags(to: &mut [u32], bytes: &[u8]) -> usize
+    ensures { λ r. ⌜ r ≡ min (length (now (to .entry))) (length (now (bytes .entry)) / 4) ⌝ }
+    ensures { λ r. ⌜ now (to .exit) ≡ put (now (to .entry)) 0 (tagsIn (now (bytes .entry)) r) ⌝ }
+{
+    let count = least(to.len(), bytes.len() / 4);
+    let mut i: usize = 0;
+    while i < count {
+        to[i] = fields::read_u32_le(bytes, 4 * i);
+        i += 1;
+    }
+    count
+}
+
+fn run_interleave(tags: &[u8]) {
+    let mut words = [0u32; TAGS_ROOM];
+    let count = load_tags(&mut words, tags);
+    let mut out = [0u64; 1];
+    let number = capi::amv_validate_movi_interleave(&words[..count], &mut out);
+    print_call(b"interleave", number);
+    print_1(out);
+    print_end();
+}
+
+fn run_from_frame_count(head: [u64; 12]) {
+    let fps = (head[1] % 4294967296) as u32;
+    let packed = capi::amv_from_frame_count(head[0], fps);
+    print_call(b"from_frame_count", packed);
+    print_end();
+}
+
+// The calls that write print every byte that they were lent.
+fn run_build_chunk_index(file: &[u8], table: &mut [u8]) {
+    let mut out = [0u64; 2];
+    let number = capi::amv_build_chunk_index(file, table, &mut out);
+    print_call(b"build_chunk_index", number);
+    print_2(out);
+    print_bytes(table);
+    print_end();
+}
+
+fn writer_of(head: [u64; 12]) -> [u64; 9]
+    ensures { λ r. ⌜ r ≡ writerIn head ⌝ }
+{
+    [
+        head[3],
+        head[4],
+        head[5],
+        head[6],
+        head[7],
+        head[8],
+        head[9],
+        head[10],
+        head[11],
+    ]
+}
+
+fn run_write_header(head: [u64; 12], buf: &mut [u8]) {
+    let mut writer = writer_of(head);
+    let mut out = [0u64; 1];
+    let number = capi::amv_write_header(&mut writer, buf, &mut out);
+    print_call(b"write_header", number);
+    print_1(out);
+    print_9(writer);
+    print_bytes(buf);
+    print_end();
+}
+
+fn run_write_packet(head: [u64; 12], buf: &mut [u8], payload: &[u8]) {
+    let mut writer = writer_of(head);
+    let mut out = [0u64; 1];
+    let stream = (head[0] % 4294967296) as u32;
+    let number = capi::amv_write_packet(&mut writer, buf, payload, stream, &mut out);
+    print_call(b"write_packet", number);
+    print_1(out);
+    print_9(writer);
+    print_bytes(buf);
+    print_end();
+}
+
+fn run_write_trailer(head: [u64; 12], buf: &mut [u8]) {
+    let mut writer = writer_of(head);
+    let mut out = [0u64; 1];
+    let number = capi::amv_write_trailer(&mut writer, buf, &mut out);
+    print_call(b"write_trailer", number);
+    print_1(out);
+    print_9(writer);
+    print_bytes(buf);
+    print_end();
+}
+
+fn run_reading(function: usize, bytes: &[u8], head: [u64; 12]) {
+    if function == Functions::PARSE {
+        run_parse(bytes, head);
+    } else if function == Functions::NEXT_PACKET {
+        run_next_packet(bytes, head);
+    } else if function == Functions::SEEK_TO_VIA_INDEX {
+        run_seek_to_via_index(bytes, head);
+    } else if function == Functions::INTERLEAVE {
+        run_interleave(bytes);
+    } else {
+        run_from_frame_count(head);
+    }
+}
+
+fn run_writing(function: usize, bytes: &[u8], lent: &mut [u8], head: [u64; 12]) {
+    if function == Functions::BUILD_CHUNK_INDEX {
+        run_build_chunk_index(bytes, lent);
+    } else if function == Functions::WRITE_HEADER {
+        run_write_header(head, lent);
+    } else if function == Functions::WRITE_PACKET {
+        run_write_packet(head, lent, bytes);
+    } else {
+        run_write_trailer(head, lent);
+    }
+}
+
+// A case of a call that writes has the lent bytes second.
+pub fn run_case(function: usize, first: &[u8], second: &[u8], head: [u64; 12]) {
+    if function < Functions::BUILD_CHUNK_INDEX {
+        run_reading(function, first, head);
+        return;
+    }
+    if function > Functions::WRITE_TRAILER {
+        run_reading(function, first, head);
+        return;
+    }
+    let mut bytes = [0u8; BYTES_ROOM];
+    let len = load(&mut bytes, second);
+    run_writing(function, first, &mut bytes[..len], head);
+}

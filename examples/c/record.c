@@ -1,0 +1,65 @@
+/* Writes a recording: two seconds of small pictures, each followed by its sound, into the file that is named. */
+#include <stdint.h>
+#include <stdio.h>
+#include <stdlib.h>
+
+#include "amv.h"
+
+enum { FPS = 12, RATE = 8000, PICTURES = 2 * FPS, SAMPLES = RATE / FPS, ROOM = 64 * 1024 };
+
+/* A call that is refused has written nothing; its number and place say why. */
+static void must(uint32_t number, const uint64_t *out, const char *call)
+{
+    if (number != 0) {
+        fprintf(stderr, "%s: refused with %u at %llu\n", call, number, (unsigned long long)out[0]);
+        exit(1);
+    }
+}
+
+/* A picture of our own: the two bytes that begin a JPEG, its number, the two that end one. */
+static size_t picture(uint8_t *to, unsigned n)
+{
+    const uint8_t bytes[] = {0xFF, 0xD8, (uint8_t)n, (uint8_t)(n >> 8), 0xFF, 0xD9};
+    for (size_t i = 0; i < sizeof bytes; i++)
+        to[i] = bytes[i];
+    return sizeof bytes;
+}
+
+/* A sound block: four bytes of decoder state, the number of samples, and half a byte for each of them. */
+static size_t sound(uint8_t *to, unsigned samples)
+{
+    for (size_t i = 0; i < 8 + samples / 2; i++)
+        to[i] = 0;
+    for (unsigned i = 0; i < 4; i++)
+        to[4 + i] = (uint8_t)(samples >> 8 * i);
+    return 8 + samples / 2;
+}
+
+int main(int argc, char **argv)
+{
+    static uint8_t file[ROOM], payload[1024];
+    uint64_t writer[9] = AMV_FRESH_WRITER(64, 48, FPS, RATE, 1);
+    uint64_t out[1];
+
+    if (argc != 2) {
+        fprintf(stderr, "usage: record FILE\n");
+        return 2;
+    }
+    must(amv_write_header(writer, file, ROOM, out), out, "header");
+    for (unsigned n = 0; n < PICTURES; n++) {
+        size_t len = picture(payload, n);
+        must(amv_write_packet(writer, file, ROOM, payload, len, 0, out), out, "picture");
+        len = sound(payload, SAMPLES);
+        must(amv_write_packet(writer, file, ROOM, payload, len, 1, out), out, "sound");
+    }
+    must(amv_write_trailer(writer, file, ROOM, out), out, "trailer");
+
+    /* The file is the first `written` bytes of the buffer. */
+    FILE *to = fopen(argv[1], "wb");
+    if (to == NULL || fwrite(file, 1, writer[7], to) != writer[7] || fclose(to) != 0) {
+        perror(argv[1]);
+        return 1;
+    }
+    printf("recorded %llu pictures, %llu bytes\n", (unsigned long long)writer[8], (unsigned long long)writer[7]);
+    return 0;
+}
