@@ -2,7 +2,7 @@
 use mathlib.Core.Path.{_≡_}
 use Prim.Native.Nat.{ℕ, zero, suc}
 use mathlib.Core.List.{List, [], _∷_}
-use Rattle.demuxer.specs.Read.{ReadAnswer, packet, End, refused, Reading, readOf}
+use Rattle.demuxer.specs.Read.{ReadAnswer, packet, End, refused, readOf}
 use Rattle.demuxer.specs.declared.walker.Walker.{Walker}
 use Rattle.muxer.specs.Writer.{Outcome, headerCall, packetCall, trailerCall, fresh}
 use Rattle.muxer.specs.declared.Settings.{Settings}
