@@ -1,8 +1,10 @@
--- What the proofs of the thin methods share. A method takes a field from behind `self`, calls one covered function, and stores or hands on what that returns. Assumes `Given` alone.
---     Runs             how a method's code runs, in machine values alone: the cell behind `self` is taken, the callee is called, and the cell is given back
---     runs-…           that the code of each form of method does so, whatever its types are
---     changes          a method with `&mut self` of a struct, from how its code runs.        views      a method with `&self`
---     meets-by         a walk from the entry, taken to the contract
+-- What the proofs of the thin methods share, and of the functions with plain parameters above them. Assumes `Given` alone.
+-- In machine values, whatever the types are, so that each form of code is walked once:
+--     Runs, runs-…         a method's code: the cell behind `self` is taken, one function is called on a field of it, and the cell is given back, with the next state stored in it or as it was
+--     LendRuns, lends-…    a function's code that makes a struct in a local, lends it for one call, and takes it apart
+-- Over the types of the struct, of its state and of what the callee returns:
+--     changes, views       a method with `&mut self`, and with `&self`, from how its code runs.        lends, view-in, view-out     a local that is lent by `&mut`, and by `&`
+--     told, told-last      what a callee leaves.        meets-by     a walk from the entry, taken to the contract
 use mathlib.Core.Path.{_≡_, refl, sym, subst, ap}
 use Prim.Native.Nat.{ℕ, zero, suc}
 use mathlib.Core.Bool.{true, _&&_}
@@ -16,16 +18,15 @@ use mir.Facts.{and-yes, yes-and}
 use mir.Fields.{getV, setV}
 use mir.Raw.{raw as rawTy}
 use mir.Val.{Val, Vals, vbool, vint, vptr, vstruct, vcons, vnil, WT, WTs, hasTy, hasTys}
-use base.Logic.{SProp, ent, sep, wand, emp, ex, via, fst∗, snd∗, apply∗, exE, id⊢}
-use base.Stored.{Gv}
-use base.Fml.{GName, Lft, Share, flft, fobs, fauth, fbor, fobor, fres, fshr-bor, flent, fdead, fsep, fat, froom, fdies}
+use base.Logic.{SProp, ent, sep, wand, emp, via, fst∗, snd∗, apply∗, exE, id⊢}
+use base.Fml.{GName, Lft, Share, flft, fobs, fauth, fobor, fres, fshr-bor, flent, fdead, fsep, fat, froom, fdies}
 use prog.Memory.{fieldAt}
 use prog.Wp.{Heap, Env, Spot, spotOf, Calls, Loops, WpFn, Tables}
 use ghost.Atoms.{Atoms, sem}
 use contract.BorrowLft.{meet-⊑-left}
 use contract.Lifetimes.{Lfts, Shares, AllOutlive}
 use contract.Monad.{fact, factI, fact-use}
-use types.Kit.{Given, Goal, prop, lands, frees, atRet, Go, Item, Seq, Step, step, Soaks, ‵, raw, _⊛_, some, given, later, mean, _$_, _∵_, !, qed, by, move, keep, drop, use1, use2, use3, group, split, join, pick, learn, rewrite, await, updating, now as at-once, show, check, suffices, fsplit, fsplit3, fjoin, fjoin3, fpick, fpack, feqI, frame, done}
+use types.Kit.{Given, Goal, prop, lands, frees, atRet, Go, Item, Seq, Step, step, ‵, raw, _⊛_, some, given, later, mean, _$_, _∵_, !, qed, by, move, drop, use1, use2, use3, group, split, join, pick, learn, rewrite, await, updating, now as at-once, show, check, suffices, fsplit, fsplit3, fjoin, fjoin3, fpick, fpack, feqI, frame, done}
 use types.Part.{agg, whole, sub, look-in, store-in}
 use types.Run.{Walks, Finds, well-typed, look, init, forget, stop, hop, fld, from, load, addr, of-opd, and-then, no-more, assigns, land, returns, enter, alloc1, alloc0, params1, pass1, pass0, free1, free0}
 use types.Tokens.{lft-new, lft-end, lent-back}
@@ -45,6 +46,10 @@ use denote.Triple.Clauses.{Clauses, Ended, Lasts, AtExit, atExit, lasts, ensured
 use denote.Triple.Entry.{Args, alive, onEntry}
 use denote.Triple.Spec.{tripleOf, Meets}
 use denote.Triple.Walked.{Stays, AllGo, walkOf, walked, walk-meets}
+
+-- a struct of two fields
+abbrev Two : Sym → Ty → Ty → Ty
+Two ν σ τ = tyStruct ν (tcons σ (tcons τ tnil))
 
 -- a machine value of a MIR type
 abbrev pub Typed : Ty → Val → Type 0
@@ -96,9 +101,6 @@ module _ (n : ℕ) (os : List (ℕ × ℕ)) (ρ τN τK : Ty) (νS νG : Sym) (�
   abbrev pub Held : Ty
   Held = tyStruct νS τs
 
-  abbrev pub Pair : Ty
-  Pair = tyStruct νG (tcons τN (tcons τK tnil))
-
   abbrev self : ℕ → Place
   self j = place 1 (deref Held ∷ field j ∷ [])
 
@@ -114,7 +116,7 @@ module _ (n : ℕ) (os : List (ℕ × ℕ)) (ρ τN τK : Ty) (νS νG : Sym) (�
     lifetimes = n;
     outlives = os;
     params = 1;
-    locals = slot τN ∷ slot ρ ∷ slot Pair ∷ slot τK ∷ slot τF ∷ [];
+    locals = slot τN ∷ slot ρ ∷ slot (Two νG τN τK) ∷ slot τK ∷ slot τF ∷ [];
     body =
         seq (assign (place 3 []) (rvOpd (copy (self k))))
         (seq (assign (place 4 []) (rvOpd (copy (self j))))
@@ -128,7 +130,7 @@ module _ (n : ℕ) (os : List (ℕ × ℕ)) (ρ τN τK : Ty) (νS νG : Sym) (�
     lifetimes = n;
     outlives = os;
     params = 4;
-    locals = slot τN ∷ slot ρ ∷ slot τ₂ ∷ slot τ₃ ∷ slot τ₄ ∷ slot Pair ∷ slot τK ∷ [];
+    locals = slot τN ∷ slot ρ ∷ slot τ₂ ∷ slot τ₃ ∷ slot τ₄ ∷ slot (Two νG τN τK) ∷ slot τK ∷ [];
     body =
         seq (assign (place 6 []) (rvOpd (copy (self k))))
         (seq (call f (copy (place 6 []) ∷ copy (place 2 []) ∷ copy (place 3 []) ∷ copy (place 4 []) ∷ []) (place 5 []))
@@ -148,7 +150,7 @@ module _ (n : ℕ) (os : List (ℕ × ℕ)) (ρ τN τK : Ty) (νS νG : Sym) (�
     lifetimes = n;
     outlives = os;
     params = 2;
-    locals = slot τN ∷ slot ρ ∷ slot τB ∷ slot Pair ∷ slot τK ∷ slot τP ∷ slot τB′ ∷ [];
+    locals = slot τN ∷ slot ρ ∷ slot τB ∷ slot (Two νG τN τK) ∷ slot τK ∷ slot τP ∷ slot τB′ ∷ [];
     body =
         seq (assign (place 4 []) (rvOpd (copy (self k))))
         (lends-on 5 σ
@@ -162,7 +164,7 @@ module _ (n : ℕ) (os : List (ℕ × ℕ)) (ρ τN τK : Ty) (νS νG : Sym) (�
     lifetimes = n;
     outlives = os;
     params = 4;
-    locals = slot τN ∷ slot ρ ∷ slot τB ∷ slot τ₃ ∷ slot τ₄ ∷ slot Pair ∷ slot τK ∷ slot τP ∷ slot τB′ ∷ [];
+    locals = slot τN ∷ slot ρ ∷ slot τB ∷ slot τ₃ ∷ slot τ₄ ∷ slot (Two νG τN τK) ∷ slot τK ∷ slot τP ∷ slot τB′ ∷ [];
     body =
         seq (assign (place 6 []) (rvOpd (copy (self k))))
         (lends-on 7 σ
@@ -224,25 +226,25 @@ module _ {M : Type 1} (𝓤 : URA M) (H : Heap 𝓤) (A : Atoms 𝓤) (W : Given
   After t = ‵ (fat fullShare (tyStruct νS τs) b o (vstruct (setV vs k (vk t))))
 
   abbrev RunsPair : Fn → List Val → List Val → Type 2
-  RunsPair fn args asks = Runs 𝓤 H A C Λ fn args f asks (Unit {0}) X vn (Fits (λ t. pair (vn t) (vk t)) (tyStruct νG (tcons τN (tcons τK tnil)))) (λ _. Before) (λ _. After)
+  RunsPair fn args asks = Runs 𝓤 H A C Λ fn args f asks (Unit {0}) X vn (Fits (λ t. pair (vn t) (vk t)) (Two νG τN τK)) (λ _. Before) (λ _. After)
 
   abbrev Opened : Item 𝓤 → (Unit {0} → Item 𝓤) → Item 𝓤
   Opened i kept = later (some (λ (y : Unit {0}). Before ⊛ i ⊛ kept y))
 
   abbrev Left : Val → (X → Item 𝓤) → Item 𝓤
-  Left u back = later (some (λ (t : X). given (Fits (λ t. pair (vn t) (vk t)) (tyStruct νG (tcons τN (tcons τK tnil))) u t) (back t)))
+  Left u back = later (some (λ (t : X). given (Fits (λ t. pair (vn t) (vk t)) (Two νG τN τK) u t) (back t)))
 
-  part-typed : (u : Val) (t : X) (i : ℕ) (τ : Ty) (e : ℕ) → fieldAt zero (tcons τN (tcons τK tnil)) i ≡ just (τ, e) → Fits (λ t. pair (vn t) (vk t)) (tyStruct νG (tcons τN (tcons τK tnil))) u t → Typed τ (getV (vcons (vn t) (vcons (vk t) vnil)) i)
-  part-typed u t i τ e at fits = let typed = subst (Typed (tyStruct νG (tcons τN (tcons τK tnil)))) (fits .0) (fits .1) in field-typed (tcons τN (tcons τK tnil)) (vcons (vn t) (vcons (vk t) vnil)) zero i τ e at (typed .0) (typed .1)
+  part-typed : (u : Val) (t : X) (i : ℕ) (τ : Ty) (e : ℕ) → fieldAt zero (tcons τN (tcons τK tnil)) i ≡ just (τ, e) → Fits (λ t. pair (vn t) (vk t)) (Two νG τN τK) u t → Typed τ (getV (vcons (vn t) (vcons (vk t) vnil)) i)
+  part-typed u t i τ e at fits = let typed = subst (Typed (Two νG τN τK)) (fits .0) (fits .1) in field-typed (tcons τN (tcons τK tnil)) (vcons (vn t) (vcons (vk t) vnil)) zero i τ e at (typed .0) (typed .1)
 
   -- what the callee returned is taken apart, the next state is stored behind `self`, and the answer is returned
-  stores-back : {Γ : List (Item 𝓤)} (E : Env 𝓤 H) (l₀ l₁ i l : ℕ) → spotOf 𝓤 H ((τN, l₀) ∷ (ρ, l₁) ∷ E) i ≡ (tyStruct νG (tcons τN (tcons τK tnil)), l, zero) → (u : Val) (t : X)
-      → Fits (λ t. pair (vn t) (vk t)) (tyStruct νG (tcons τN (tcons τK tnil))) u t → (Post : Val → SProp 𝓤)
-      → Step (Go {0}) W (‵ (froom τN l₀ 0) ∷ ‵ (froom ρ l₁ 0) ∷ ‵ (froom (tyStruct νG (tcons τN (tcons τK tnil))) l 0) ∷ After t ∷ Γ) (frees ((τN, l₀) ∷ (ρ, l₁) ∷ E) (prop (Post (vn t))))
-      (‵ (froom τN l₀ 0) ∷ ‵ (fat fullShare ρ l₁ 0 (vptr b o)) ∷ ‵ (froom (tyStruct νG (tcons τN (tcons τK tnil))) l 0) ∷ Before ∷ Γ)
+  stores-back : {Γ : List (Item 𝓤)} (E : Env 𝓤 H) (l₀ l₁ i l : ℕ) → spotOf 𝓤 H ((τN, l₀) ∷ (ρ, l₁) ∷ E) i ≡ (Two νG τN τK, l, zero) → (u : Val) (t : X)
+      → Fits (λ t. pair (vn t) (vk t)) (Two νG τN τK) u t → (Post : Val → SProp 𝓤)
+      → Step (Go {0}) W (‵ (froom τN l₀ 0) ∷ ‵ (froom ρ l₁ 0) ∷ ‵ (froom (Two νG τN τK) l 0) ∷ After t ∷ Γ) (frees ((τN, l₀) ∷ (ρ, l₁) ∷ E) (prop (Post (vn t))))
+      (‵ (froom τN l₀ 0) ∷ ‵ (fat fullShare ρ l₁ 0 (vptr b o)) ∷ ‵ (froom (Two νG τN τK) l 0) ∷ Before ∷ Γ)
       (lands C Λ ((τN, l₀) ∷ (ρ, l₁) ∷ E) (place i []) u (stores n os ρ τN τK νS νG τs k f i) (atRet ((τN, l₀) ∷ (ρ, l₁) ∷ E) Post))
   stores-back E l₀ l₁ i l spot u t fits Post =
-      step (λ s. land ! (spotted ! spot (stop !)) (init ! 2 refl (fits .1)) $ rewrite ! 2 (λ (y : Val). ‵ (fat fullShare (tyStruct νG (tcons τN (tcons τK tnil))) l 0 y)) (fits .0) refl $
+      step (λ s. land ! (spotted ! spot (stop !)) (init ! 2 refl (fits .1)) $ rewrite ! 2 (λ (y : Val). ‵ (fat fullShare (Two νG τN τK) l 0 y)) (fits .0) refl $
       assigns ! (of-opd ! (load ! (spotted ! spot (fld ! refl (stop !))) (look-in ! 2 (sub ! 1 refl (whole !))))) (from ! (hop ! (look ! 1 refl) (fld ! found (stop !)))) (store-in ! 3 (sub ! k found (whole !)) (part-typed u t 1 τK _ refl fits)) $
       assigns ! (of-opd ! (load ! (spotted ! spot (fld ! refl (stop !))) (look-in ! 2 (sub ! 0 refl (whole !))))) (from ! (stop !)) (init ! 0 refl (part-typed u t 0 τN _ refl fits)) $
       returns ! (look ! 0 refl) $ forget ! 0 refl $ forget ! 1 refl $ forget ! 2 refl $ s)
@@ -279,10 +281,10 @@ module _ {M : Type 1} (𝓤 : URA M) (H : Heap 𝓤) (A : Atoms 𝓤) (W : Given
 
   module _ (σ τR τL τP : Ty) (νB νB′ : Sym) (bb oo : ℕ) (len : Val) where
     abbrev Slice : Ty
-    Slice = tyStruct νB (tcons τR (tcons τL tnil))
+    Slice = Two νB τR τL
 
     abbrev Slice′ : Ty
-    Slice′ = tyStruct νB′ (tcons τP (tcons τL tnil))
+    Slice′ = Two νB′ τP τL
 
     abbrev lent : Val
     lent = pair (vptr bb oo) len
@@ -366,16 +368,13 @@ module _ (n : ℕ) (os : List (ℕ × ℕ)) (ρ τN τK : Ty) (νS νG : Sym) (�
       seq (assign (place j []) (rvOpd (copy (place i (field k ∷ [])))))
       (seq (assign (place 0 []) (aggregate (copy (place (suc i) []) ∷ copy (place j []) ∷ []))) return)
 
-  abbrev Result : Ty
-  Result = tyStruct νG (tcons τN (tcons τK tnil))
-
   -- `f(&mut S(a, b))`
   abbrev pub lendFn : Ty → Ty → Fn
   lendFn τ₁ τ₂ = record {
     lifetimes = n;
     outlives = os;
     params = 2;
-    locals = slot Result ∷ slot τ₁ ∷ slot τ₂ ∷ lent-slot (tyStruct νS τs) ∷ slot τN ∷ slot ρ ∷ slot τK ∷ [];
+    locals = slot (Two νG τN τK) ∷ slot τ₁ ∷ slot τ₂ ∷ lent-slot (tyStruct νS τs) ∷ slot τN ∷ slot ρ ∷ slot τK ∷ [];
     body =
         seq (assign (place 3 []) (aggregate (copy (place 1 []) ∷ copy (place 2 []) ∷ [])))
         (seq (assign (place 5 []) (addrOf (place 3 [])))
@@ -389,7 +388,7 @@ module _ (n : ℕ) (os : List (ℕ × ℕ)) (ρ τN τK : Ty) (νS νG : Sym) (�
     lifetimes = n;
     outlives = os;
     params = 5;
-    locals = slot Result ∷ slot τ₁ ∷ slot τ₂ ∷ slot τ₃ ∷ slot τ₄ ∷ slot τ₅ ∷ lent-slot (tyStruct νS τs) ∷ slot τN ∷ slot ρ ∷ slot τK ∷ [];
+    locals = slot (Two νG τN τK) ∷ slot τ₁ ∷ slot τ₂ ∷ slot τ₃ ∷ slot τ₄ ∷ slot τ₅ ∷ lent-slot (tyStruct νS τs) ∷ slot τN ∷ slot ρ ∷ slot τK ∷ [];
     body =
         seq (assign (place 6 []) (aggregate (copy (place 1 []) ∷ copy (place 2 []) ∷ [])))
         (seq (assign (place 8 []) (addrOf (place 6 [])))
@@ -403,7 +402,7 @@ module _ (n : ℕ) (os : List (ℕ × ℕ)) (ρ τN τK : Ty) (νS νG : Sym) (�
     lifetimes = n;
     outlives = os;
     params = 2;
-    locals = slot Result ∷ slot τ₁ ∷ slot τB ∷ lent-slot (tyStruct νS τs) ∷ slot τN ∷ slot ρ ∷ slot τP ∷ slot τB′ ∷ slot τK ∷ [];
+    locals = slot (Two νG τN τK) ∷ slot τ₁ ∷ slot τB ∷ lent-slot (tyStruct νS τs) ∷ slot τN ∷ slot ρ ∷ slot τP ∷ slot τB′ ∷ slot τK ∷ [];
     body =
         seq (assign (place 3 []) (aggregate (copy (place 1 []) ∷ [])))
         (seq (assign (place 5 []) (addrOf (place 3 [])))
@@ -418,7 +417,7 @@ module _ (n : ℕ) (os : List (ℕ × ℕ)) (ρ τN τK : Ty) (νS νG : Sym) (�
     lifetimes = n;
     outlives = os;
     params = 4;
-    locals = slot Result ∷ slot τ₁ ∷ slot τB ∷ slot τ₃ ∷ slot τ₄ ∷ lent-slot (tyStruct νS τs) ∷ slot τN ∷ slot ρ ∷ slot τP ∷ slot τB′ ∷ slot τK ∷ [];
+    locals = slot (Two νG τN τK) ∷ slot τ₁ ∷ slot τB ∷ slot τ₃ ∷ slot τ₄ ∷ lent-slot (tyStruct νS τs) ∷ slot τN ∷ slot ρ ∷ slot τP ∷ slot τB′ ∷ slot τK ∷ [];
     body =
         seq (assign (place 5 []) (aggregate (copy (place 1 []) ∷ [])))
         (seq (assign (place 7 []) (addrOf (place 5 [])))
@@ -455,11 +454,11 @@ module _ {M : Type 1} (𝓤 : URA M) (H : Heap 𝓤) (A : Atoms 𝓤) (W : Given
   Got u l back = later (some (λ (t : X). given (Fits vn τN u t) (Local-at l (vs′ t) ⊛ back t)))
 
   -- the answer is stored, and the result is made of it and of the state
-  takes-it-apart : {Γ : List (Item 𝓤)} (E : Env 𝓤 H) (l₀ l ln lk i j : ℕ) → spotOf 𝓤 H ((tyStruct νG (tcons τN (tcons τK tnil)), l₀) ∷ E) i ≡ (tyStruct νS τs, l, zero) → spotOf 𝓤 H ((tyStruct νG (tcons τN (tcons τK tnil)), l₀) ∷ E) (suc i) ≡ (τN, ln, zero)
-      → spotOf 𝓤 H ((tyStruct νG (tcons τN (tcons τK tnil)), l₀) ∷ E) j ≡ (τK, lk, zero) → (u : Val) (t : X) → Fits vn τN u t → (Post : Val → SProp 𝓤)
-      → Step (Go {0}) W (‵ (froom (tyStruct νG (tcons τN (tcons τK tnil))) l₀ 0) ∷ ‵ (froom (tyStruct νS τs) l 0) ∷ ‵ (froom τN ln 0) ∷ ‵ (froom τK lk 0) ∷ Γ) (frees ((tyStruct νG (tcons τN (tcons τK tnil)), l₀) ∷ E) (prop (Post (result t))))
-      (‵ (froom (tyStruct νG (tcons τN (tcons τK tnil))) l₀ 0) ∷ Local-at l (vs′ t) ∷ ‵ (froom τN ln 0) ∷ ‵ (froom τK lk 0) ∷ Γ)
-      (lands C Λ ((tyStruct νG (tcons τN (tcons τK tnil)), l₀) ∷ E) (place (suc i) []) u (takes-apart n os ρ τN τK νS νG τs k f i j) (atRet ((tyStruct νG (tcons τN (tcons τK tnil)), l₀) ∷ E) Post))
+  takes-it-apart : {Γ : List (Item 𝓤)} (E : Env 𝓤 H) (l₀ l ln lk i j : ℕ) → spotOf 𝓤 H ((Two νG τN τK, l₀) ∷ E) i ≡ (tyStruct νS τs, l, zero) → spotOf 𝓤 H ((Two νG τN τK, l₀) ∷ E) (suc i) ≡ (τN, ln, zero)
+      → spotOf 𝓤 H ((Two νG τN τK, l₀) ∷ E) j ≡ (τK, lk, zero) → (u : Val) (t : X) → Fits vn τN u t → (Post : Val → SProp 𝓤)
+      → Step (Go {0}) W (‵ (froom (Two νG τN τK) l₀ 0) ∷ ‵ (froom (tyStruct νS τs) l 0) ∷ ‵ (froom τN ln 0) ∷ ‵ (froom τK lk 0) ∷ Γ) (frees ((Two νG τN τK, l₀) ∷ E) (prop (Post (result t))))
+      (‵ (froom (Two νG τN τK) l₀ 0) ∷ Local-at l (vs′ t) ∷ ‵ (froom τN ln 0) ∷ ‵ (froom τK lk 0) ∷ Γ)
+      (lands C Λ ((Two νG τN τK, l₀) ∷ E) (place (suc i) []) u (takes-apart n os ρ τN τK νS νG τs k f i j) (atRet ((Two νG τN τK, l₀) ∷ E) Post))
   takes-it-apart E l₀ l ln lk i j at-i at-n at-j u t fits Post =
       step (λ s. land ! (spotted ! at-n (stop !)) (init ! 2 refl (fits .1)) $ rewrite ! 2 (λ (y : Val). ‵ (fat fullShare τN ln 0 y)) (fits .0) refl $ move ! (1 ∷ []) $ well-typed ! (λ typed. move ! (1 ∷ 0 ∷ []) $
       let state = field-typed τs (vs′ t) zero k τK d found (typed .0) (typed .1) in let answer = subst (Typed τN) (fits .0) (fits .1) in
@@ -504,13 +503,13 @@ module _ {M : Type 1} (𝓤 : URA M) (H : Heap 𝓤) (A : Atoms 𝓤) (W : Given
         move ! (0 ∷ 20 ∷ 18 ∷ 19 ∷ 16 ∷ 17 ∷ 14 ∷ 15 ∷ 12 ∷ 13 ∷ 10 ∷ 11 ∷ 1 ∷ 9 ∷ 2 ∷ 8 ∷ 6 ∷ 7 ∷ 3 ∷ 5 ∷ []) $ freed ! _ $ by ! (ends t)))))))))))))))
 
   module _ (τ₁ : Ty) (v₁ : Val) (typed₁ : Typed τ₁ v₁) (made : vs ≡ vcons v₁ vnil) (σ τR τL τP : Ty) (νB νB′ : Sym) (bb oo : ℕ) (len : Val)
-      (typed-slice : Typed (tyStruct νB (tcons τR (tcons τL tnil))) (pair (vptr bb oo) len)) (typed-ptr : Typed τP (vptr bb oo)) (typed-again : Typed (tyStruct νB′ (tcons τP (tcons τL tnil))) (pair (vptr bb oo) len)) where
+      (typed-slice : Typed (Two νB τR τL) (pair (vptr bb oo) len)) (typed-ptr : Typed τP (vptr bb oo)) (typed-again : Typed (Two νB′ τP τL) (pair (vptr bb oo) len)) where
     abbrev buf : Val
     buf = pair (vptr bb oo) len
 
-    pub lends-buffer : Lends (lendBufferFn n os ρ τN τK νS νG τs k f τ₁ σ (tyStruct νB (tcons τR (tcons τL tnil))) τP (tyStruct νB′ (tcons τP (tcons τL tnil)))) (v₁ ∷ buf ∷ []) (λ l. vptr l 0 ∷ buf ∷ [])
+    pub lends-buffer : Lends (lendBufferFn n os ρ τN τK νS νG τs k f τ₁ σ (Two νB τR τL) τP (Two νB′ τP τL)) (v₁ ∷ buf ∷ []) (λ l. vptr l 0 ∷ buf ∷ [])
     lends-buffer Start Y i kept Q back Post lent met got ends =
-        qed W (raw Start ∷ []) ∵ enter ! C Λ (lendBufferFn n os ρ τN τK νS νG τs k f τ₁ σ (tyStruct νB (tcons τR (tcons τL tnil))) τP (tyStruct νB′ (tcons τP (tcons τL tnil)))) (v₁ ∷ buf ∷ []) Post $
+        qed W (raw Start ∷ []) ∵ enter ! C Λ (lendBufferFn n os ρ τN τK νS νG τs k f τ₁ σ (Two νB τR τL) τP (Two νB′ τP τL)) (v₁ ∷ buf ∷ []) Post $
         alloc1 ! (λ l₀. alloc1 ! (λ l₁. alloc1 ! (λ l₂. alloc1 ! (λ l₃. alloc1 ! (λ l₄. alloc1 ! (λ l₅. alloc1 ! (λ l₆. alloc1 ! (λ l₇. alloc1 ! (λ l₈. alloc0 ! $ params1 ! $ pass1 ! (init ! 14 refl typed₁) $ pass1 ! (init ! 12 refl typed-slice) $ pass0 ! $
         -- [_8; …; _7; …; _6; …; _5; …; _4; …; _3; …; _2; …; _1; …; _0; …; the start]
         assigns ! (agg ! (and-then ! (load ! (from ! (stop !)) (look ! 14 refl)) (no-more !))) (from ! (stop !)) (init ! 10 refl (subst (λ (us : Vals). Typed (tyStruct νS τs) (vstruct us)) made whole-typed)) $
@@ -528,9 +527,9 @@ module _ {M : Type 1} (𝓤 : URA M) (H : Heap 𝓤) (A : Atoms 𝓤) (W : Given
         move ! (0 ∷ 18 ∷ 16 ∷ 17 ∷ 14 ∷ 15 ∷ 1 ∷ 13 ∷ 2 ∷ 12 ∷ 10 ∷ 11 ∷ 8 ∷ 9 ∷ 6 ∷ 7 ∷ 3 ∷ 5 ∷ []) $ freed ! _ $ by ! (ends t))))))))))))))
 
     pub lends-buffer-two : (τ₃ τ₄ : Ty) (v₃ v₄ : Val) → Typed τ₃ v₃ → Typed τ₄ v₄
-        → Lends (lendBufferTwoFn n os ρ τN τK νS νG τs k f τ₁ σ (tyStruct νB (tcons τR (tcons τL tnil))) τ₃ τ₄ τP (tyStruct νB′ (tcons τP (tcons τL tnil)))) (v₁ ∷ buf ∷ v₃ ∷ v₄ ∷ []) (λ l. vptr l 0 ∷ buf ∷ v₃ ∷ v₄ ∷ [])
+        → Lends (lendBufferTwoFn n os ρ τN τK νS νG τs k f τ₁ σ (Two νB τR τL) τ₃ τ₄ τP (Two νB′ τP τL)) (v₁ ∷ buf ∷ v₃ ∷ v₄ ∷ []) (λ l. vptr l 0 ∷ buf ∷ v₃ ∷ v₄ ∷ [])
     lends-buffer-two τ₃ τ₄ v₃ v₄ typed₃ typed₄ Start Y i kept Q back Post lent met got ends =
-        qed W (raw Start ∷ []) ∵ enter ! C Λ (lendBufferTwoFn n os ρ τN τK νS νG τs k f τ₁ σ (tyStruct νB (tcons τR (tcons τL tnil))) τ₃ τ₄ τP (tyStruct νB′ (tcons τP (tcons τL tnil)))) (v₁ ∷ buf ∷ v₃ ∷ v₄ ∷ []) Post $
+        qed W (raw Start ∷ []) ∵ enter ! C Λ (lendBufferTwoFn n os ρ τN τK νS νG τs k f τ₁ σ (Two νB τR τL) τ₃ τ₄ τP (Two νB′ τP τL)) (v₁ ∷ buf ∷ v₃ ∷ v₄ ∷ []) Post $
         alloc1 ! (λ l₀. alloc1 ! (λ l₁. alloc1 ! (λ l₂. alloc1 ! (λ l₃. alloc1 ! (λ l₄. alloc1 ! (λ l₅. alloc1 ! (λ l₆. alloc1 ! (λ l₇. alloc1 ! (λ l₈. alloc1 ! (λ l₉. alloc1 ! (λ lₐ. alloc0 ! $ params1 ! $
         pass1 ! (init ! 18 refl typed₁) $ pass1 ! (init ! 16 refl typed-slice) $ pass1 ! (init ! 14 refl typed₃) $ pass1 ! (init ! 12 refl typed₄) $ pass0 ! $
         -- [_10; …; _9; …; _8; …; _7; …; _6; …; _5; …; _4; …; _3; …; _2; …; _1; …; _0; …; the start]

@@ -18,7 +18,9 @@ use muxer::Wrote;
 use seek::SeekResult;
 use seek::Sought;
 ghost use mathlib.Core.Path.{_≡_};
-ghost use lib.ListN.{take};
+ghost use lib.ListN.{length, take};
+ghost use Rattle.muxer.specs.Writer.{packetCall};
+ghost use Rattle.play.specs.Recording.{Left, pairOf, packetsOf, recordingOf, played};
 
 // More than the recording takes.
 const ROOM: usize = 512;
@@ -64,25 +66,25 @@ fn print_wrote(what: &[u8], wrote: Wrote) {
     }
 }
 
-fn write_packet(
-    what: &[u8],
-    writer: Writer,
-    buf: &mut [u8],
-    payload: &[u8],
-    stream: u32,
-) -> Writer {
+fn write_packet(what: &[u8], writer: Writer, buf: &mut [u8], payload: &[u8], stream: u32) -> Writer
+    ensures { λ r. ⌜ Left (packetCall writer (now (payload .entry)) stream (now (buf .entry))) r (now (buf .exit)) ⌝ }
+{
     let wrote = amv::plain::write_packet(writer, buf, payload, stream);
     print_wrote(what, wrote);
     wrote.writer
 }
 
-fn write_pair(writer: Writer, buf: &mut [u8], frame: &[u8], block: &[u8]) -> Writer {
+fn write_pair(writer: Writer, buf: &mut [u8], frame: &[u8], block: &[u8]) -> Writer
+    ensures { λ r. ⌜ Left (pairOf writer (now (buf .entry)) (now (frame .entry)) (now (block .entry))) r (now (buf .exit)) ⌝ }
+{
     let writer = write_packet(b"frame", writer, buf, frame, 0);
     write_packet(b"sound", writer, buf, block, 1)
 }
 
 // Two frames, each with a block of sound: of 2 samples, and of 3. A packet of no stream is refused.
-fn write_packets(writer: Writer, buf: &mut [u8]) -> Writer {
+fn write_packets(writer: Writer, buf: &mut [u8]) -> Writer
+    ensures { λ r. ⌜ Left (packetsOf writer (now (buf .entry))) r (now (buf .exit)) ⌝ }
+{
     let block = [0u8, 0, 0, 0, 2, 0, 0, 0, 7, 7];
     let writer = write_pair(writer, buf, b"one", &block);
     let block = [0u8, 0, 0, 0, 3, 0, 0, 0, 7, 7, 7];
@@ -90,7 +92,9 @@ fn write_packets(writer: Writer, buf: &mut [u8]) -> Writer {
     write_packet(b"stream 2", writer, buf, b"none", 2)
 }
 
-fn write_recording(buf: &mut [u8]) -> Writer {
+fn write_recording(buf: &mut [u8]) -> Writer
+    ensures { λ r. ⌜ Left (recordingOf (now (buf .entry))) r (now (buf .exit)) ⌝ }
+{
     let muxer = AmvMuxer::new(Settings {
         width: 8,
         height: 8,
@@ -127,7 +131,9 @@ fn print_packet(file: &[u8], packet: Packet) {
 }
 
 // Reads to the end, or to a refusal.
-fn play(file: &[u8], start: Walker) -> Walker {
+fn play(file: &[u8], start: Walker) -> Walker
+    ensures { λ r. ⌜ r ≡ played (length (now (file .entry))) (now (file .entry)) start ⌝ }
+{
     let mut walker = start;
     // A chunk takes 8 bytes or more, so the walk ends first.
     let mut left = file.len();

@@ -1,16 +1,19 @@
--- `play` is safe and ends: each turn takes one from what is left of the file's length.
+-- `play` meets its contract: each turn takes one from what is left, and what is left to play stays what it was.
+use mathlib.Core.Path.{_≡_, refl, sym, _∙_}
 use borrow.Author.Needs.{needs}
+use Rattle.play.specs.Recording.{played}
+use Rattle.play.proofs.Laws.{played-step, played-none}
 use Rattle.play.proofs.play.Statement.{statement}
 use Rattle.play.proofs.play.Tie as tie
 
 abbrev Inv-loop : tie.InvT-loop
-Inv-loop file walker₀ left₀ t10 walker left = Unit {0}
+Inv-loop file walker₀ left₀ t10 walker left = played left file walker ≡ played left₀ file walker₀
 
 abbrev μ-loop : tie.MeasureT-loop
 μ-loop file walker₀ left₀ t10 walker left = left
 
 loop-holds : tie.Need-loop-holds Inv-loop μ-loop
-loop-holds c = search needs
+loop-holds c = refl
 
 sub-left : tie.Need-sub-left Inv-loop μ-loop
 sub-left c = search needs
@@ -28,13 +31,13 @@ loop-less : tie.Need-loop-less Inv-loop μ-loop
 loop-less c = search needs
 
 loop-again : tie.Need-loop-again Inv-loop μ-loop
-loop-again c = search needs
+loop-again c = sym (played-step _ _ _ _ _ (c .before .before .before .before .before .before .loop-test .taken) (c .before .before .before .before .before .next-packet .ensures .0) (c .before .before .answer .given .1)) ∙ c .before .before .before .before .before .before .before .loop .inv
 
 enum-told : tie.Need-enum-told Inv-loop μ-loop
 enum-told c = search needs
 
 returns : tie.Need-returns Inv-loop μ-loop
-returns c = search needs
+returns c = sym (played-step _ _ _ _ _ (c .before .before .before .before .loop-test .taken) (c .before .before .before .next-packet .ensures .0) (c .enum-told .given .1)) ∙ c .before .before .before .before .before .loop .inv
 
 enum-known-answer-2 : tie.Need-enum-known-answer-2 Inv-loop μ-loop
 enum-known-answer-2 c = search needs
@@ -49,10 +52,10 @@ print-refusal-requires : tie.Need-print-refusal-requires Inv-loop μ-loop
 print-refusal-requires c κs = search needs
 
 returns-2 : tie.Need-returns-2 Inv-loop μ-loop
-returns-2 c = search needs
+returns-2 c = sym (played-step _ _ _ _ _ (c .before .before .before .before .before .before .before .before .loop-test .taken) (c .before .before .before .before .before .before .before .next-packet .ensures .0) (c .before .before .before .before .answer2 .given .1)) ∙ c .before .before .before .before .before .before .before .before .before .loop .inv
 
 returns-3 : tie.Need-returns-3 Inv-loop μ-loop
-returns-3 c = search needs
+returns-3 c = played-none _ _ _ (c .loop-test .left) ∙ c .before .loop .inv
 
 pub play-spec : {M : Type 1} → statement M
 play-spec =

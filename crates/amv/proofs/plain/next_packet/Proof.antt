@@ -1,6 +1,6 @@
 -- `plain::next_packet` meets its contract: the reader is made in a local, lent to the method, and taken apart.
 -- Assumes nothing.
-use mathlib.Core.Path.{_≡_, refl}
+use mathlib.Core.Path.{refl}
 use Prim.Native.Nat.{ℕ}
 use mathlib.Core.List.{List, [], _∷_}
 use lib.ListN.{length}

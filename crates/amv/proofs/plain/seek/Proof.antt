@@ -1,6 +1,6 @@
 -- `plain::seek` meets its contract: the reader is made in a local, lent to the method, and taken apart.
 -- Assumes nothing.
-use mathlib.Core.Path.{_≡_, refl}
+use mathlib.Core.Path.{refl}
 use Prim.Native.Nat.{ℕ, _<_, _^_}
 use mathlib.Core.List.{List, [], _∷_}
 use lib.IntN.{ℤ}

@@ -1,6 +1,6 @@
 -- `plain::write_packet` meets its contract: the writer is made in a local, lent to the method beside the buffer, and taken apart.
 -- Assumes nothing.
-use mathlib.Core.Path.{_≡_, refl}
+use mathlib.Core.Path.{refl}
 use Prim.Native.Nat.{ℕ, _<_, _^_}
 use mathlib.Core.List.{List, [], _∷_}
 use lib.ListN.{length}

@@ -16,7 +16,7 @@ use ghost.Atoms.{Atoms}
 use contract.Lifetimes.{AllOutlive}
 use contract.Monad.{Fun}
 use contract.Running.{givenOf, tables, tablesOf}
-use types.Kit.{Given, Item, ‵, raw, _⊛_, mean, given, _$_, _∵_, !, qed, move, drop, use1, use2, split, join, learn, fsplit, fjoin, suffices, frame, done}
+use types.Kit.{Given, Item, ‵, raw, _⊛_, mean, given, _$_, _∵_, !, qed, move, use1, use2, split, join, learn, fsplit, fjoin, suffices, frame, done}
 use sound.WpLaws.{FmC, fmOf}
 use denote.RattleType.{owns}
 use denote.Laws.{Is}

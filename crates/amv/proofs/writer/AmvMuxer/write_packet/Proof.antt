@@ -1,6 +1,6 @@
 -- `AmvMuxer::write_packet` meets its contract: the call by value is made on the state behind `self`, the buffer is lent on, and the payload and the stream are handed on.
 -- Assumes nothing.
-use mathlib.Core.Path.{_≡_, refl}
+use mathlib.Core.Path.{refl}
 use Prim.Native.Nat.{ℕ, _<_, _^_}
 use mathlib.Core.List.{List, [], _∷_}
 use lib.ListN.{length}
