@@ -4,7 +4,7 @@ use mathlib.Core.Bool.{true, false}
 use mathlib.Core.List.{List, [], _∷_, _++_}
 use mathlib.Core.Option.{some}
 use Prim.Native.Nat.{ℕ}
-use lib.IntN.{ℤ, pos, negsuc}
+use lib.IntN.{pos, negsuc}
 use lib.ListN.{length, take}
 use Rattle.error.specs.Answer.{accepted, refused, numbered}
 use Rattle.duration.specs.Duration.{packedOf, runLength}
@@ -18,7 +18,6 @@ use Rattle.demuxer.specs.Position.{start}
 use Rattle.demuxer.specs.Read.{ReadAnswer, packet, End, fresh, readOf}
 use Rattle.demuxer.specs.declared.position.Position.{Position}
 use Rattle.demuxer.specs.declared.walker.Trailer.the-variants.{NotMet}
-use Rattle.demuxer.specs.declared.walker.Walker.{Walker}
 use Rattle.chunk_index.specs.Entry.{tableBytes}
 use Rattle.chunk_index.specs.Index.{fileWalk, records, indexOf}
 use Rattle.chunk_index.specs.declared.entry.ChunkIndexEntry.{ChunkIndexEntry}

@@ -1,11 +1,11 @@
 -- The interleave check, position by position. Assumes nothing.
-use mathlib.Core.Path.{_≡_, refl, ap, _∙_}
+use mathlib.Core.Path.{_≡_, ap, _∙_}
 use mathlib.Core.List.{List}
 use Prim.Native.Nat.{ℕ, _+_, _<_}
 use native.Mathlib.Numerals.{add-one}
 use lib.ListN.{length, drop, getD}
 use lib.Seq.{drop-cons, drop-length}
-use Rattle.error.specs.Answer.{Answer, accepted, ask, andThen}
+use Rattle.error.specs.Answer.{accepted, ask, andThen}
 use Rattle.error.specs.Refusal.{said}
 use Rattle.error.specs.declared.AmvResult.{AmvResult}
 use Rattle.error.specs.declared.AmvError.{AmvError}

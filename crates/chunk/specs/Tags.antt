@@ -1,7 +1,6 @@
 -- The tags, character by character. Assumes nothing.
 use mathlib.Core.Path.{_≡_}
-use mathlib.Core.List.{List, [], _∷_}
-use Prim.Native.Nat.{ℕ}
+use mathlib.Core.List.{[], _∷_}
 use Rattle.fields.specs.Le.{leBytes}
 use Rattle.chunk.specs.Chunk.{videoTag, audioTag}
 

@@ -1,12 +1,12 @@
 -- From the count to the table: what the whole call leaves. Assumes nothing.
-use mathlib.Core.Path.{_≡_, refl, sym, ap, _∙_}
+use mathlib.Core.Path.{_≡_, ap}
 use mathlib.Core.Bool.{Bool, true, false, cond}
 use mathlib.Core.List.{List, [], _∷_}
 use Prim.Native.Nat.{ℕ, zero, suc, _+_, _-_, _*_, _≤_, _<_}
 use native.Mathlib.Omega.{arith}
 use borrow.Author.Tests.{le-leb, lt-leb}
 use lib.ListN.{length}
-use Rattle.error.specs.Answer.{Answer, accepted, refused, numbered, ask, andThen}
+use Rattle.error.specs.Answer.{Answer, accepted, refused, numbered, andThen}
 use Rattle.error.specs.declared.Refusal.{Refusal}
 use Rattle.error.proofs.Answers.{then-passed}
 use Rattle.fields.specs.File.{withinLimit}
@@ -19,8 +19,7 @@ use Rattle.demuxer.specs.declared.head.Head.the-variants as head
 use Rattle.demuxer.specs.declared.position.Position.{Position}
 use Rattle.chunk_index.specs.Walk.{Kind, frame, sound, Walk, stop, chunk, onHead, walkFor, walk, past}
 use Rattle.chunk_index.specs.Entry.{entry, entryLen, tableBytes}
-use Rattle.chunk_index.specs.Index.{recorded, records, tagsKnown, counted, countsFrom, fileWalk, indexOf, Built, builtFrom, buildOf}
-use Rattle.chunk_index.specs.declared.entry.ChunkIndexEntry.{ChunkIndexEntry}
+use Rattle.chunk_index.specs.Index.{recorded, records, tagsKnown, counted, countsFrom, fileWalk, indexOf, buildOf}
 use Rattle.chunk_index.specs.declared.index.ChunkCounts.{ChunkCounts}
 use Rattle.chunk_index.proofs.Counting.{none-counted, total}
 

@@ -1,13 +1,13 @@
 -- A record written is a record read. Assumes nothing.
 use mathlib.Core.Path.{_≡_, refl, sym, ap, _∙_}
-use mathlib.Core.List.{List, [], _∷_, _++_}
-use Prim.Native.Nat.{ℕ, zero, suc, _+_, _*_, _^_, _≤_, _<_}
+use mathlib.Core.List.{List, _++_}
+use Prim.Native.Nat.{ℕ, _+_, _^_, _≤_, _<_}
 use native.Mathlib.Nat.{add-zero}
 use native.Mathlib.Omega.{arith}
 use lib.ListN.{length, take, drop}
 use Rattle.fields.specs.Le.{le, leBytes, put, putLe}
 use Rattle.fields.proofs.Laws.{put-put, le-append-right, le-leBytes}
-use Rattle.chunk_index.specs.Entry.{entryBytes, entryAt, Small, tableBytes}
+use Rattle.chunk_index.specs.Entry.{entryBytes, entryAt, Small}
 use Rattle.chunk_index.specs.declared.entry.ChunkIndexEntry.{ChunkIndexEntry}
 
 -- five stores, one after another, write the record

@@ -1,25 +1,22 @@
 -- Records, counts and known tags along the walk. Assumes nothing.
-use mathlib.Core.Path.{_≡_, refl, sym, ap, _∙_, subst}
+use mathlib.Core.Path.{_≡_, refl, ap, _∙_, subst}
 use mathlib.Core.Bool.{Bool, true, false, cond}
 use mathlib.Core.List.{List, [], _∷_}
-use Prim.Native.Nat.{ℕ, zero, suc, _+_, _-_, _*_, _≤_, _<_, min}
+use Prim.Native.Nat.{ℕ, _+_, _-_, _≤_, min}
 use native.Mathlib.Nat.{min-le-right}
 use native.Mathlib.Omega.{arith}
-use borrow.Author.Tests.{leb-true}
 use lib.Dec.{leb}
 use lib.ListN.{length}
-use Rattle.error.specs.Answer.{Answer, accepted, refused, numbered}
-use Rattle.demuxer.specs.Head.{headAt, countOf}
-use Rattle.demuxer.specs.Position.{pastFrame, pastSound}
+use Rattle.error.specs.Answer.{accepted, refused, numbered}
+use Rattle.demuxer.specs.Head.{headAt}
 use Rattle.demuxer.specs.Read.{payloadAt}
 use Rattle.demuxer.specs.declared.head.Head.{Head}
 use Rattle.demuxer.specs.declared.head.Head.the-variants as head
 use Rattle.demuxer.specs.declared.position.Position.{Position}
 use Rattle.chunk_index.specs.Walk.{Kind, frame, sound, Walk, stop, chunk, ranOut, trailer, unknownTag, onHead, walk, past}
 use Rattle.chunk_index.specs.Entry.{entry}
-use Rattle.chunk_index.specs.Index.{recorded, records, stopKnown, tagsKnown, counted, countsFrom}
+use Rattle.chunk_index.specs.Index.{recorded, records, tagsKnown, counted, countsFrom}
 use Rattle.chunk_index.specs.Steps.{onHeadIndexed, indexedAt}
-use Rattle.chunk_index.specs.declared.entry.ChunkIndexEntry.{ChunkIndexEntry}
 use Rattle.chunk_index.specs.declared.index.ChunkCounts.{ChunkCounts}
 use Rattle.chunk_index.specs.declared.index.Indexed.{Indexed}
 use Rattle.chunk_index.specs.declared.index.Indexed.the-variants as indexed

@@ -1,20 +1,18 @@
 -- The walk, chunk by chunk: the fuel is hidden here for good. Assumes nothing.
 use mathlib.Core.Path.{_≡_, refl, sym, ap, _∙_}
-use mathlib.Core.Bool.{Bool, true, false, cond}
 use mathlib.Core.List.{List}
-use Prim.Native.Nat.{ℕ, zero, suc, _+_, _-_, _≤_, _<_, min}
+use Prim.Native.Nat.{ℕ, zero, suc, _+_, _-_, _≤_, _<_}
 use native.Mathlib.Decide.{decLe}
 use native.Mathlib.Nat.{lt-of-not-le}
 use native.Mathlib.Omega.{arith}
-use borrow.Author.Tests.{le-leb, lt-leb, leb-true}
+use borrow.Author.Tests.{le-leb, lt-leb}
 use lib.Dec.{leb}
-use lib.ListN.{length, take, drop, length-take, length-drop}
-use Rattle.fields.specs.Le.{le}
-use Rattle.demuxer.specs.Head.{headAt, isTrailer, chunkHead}
+use lib.ListN.{length, length-take, length-drop}
+use Rattle.demuxer.specs.Head.{headAt}
 use Rattle.demuxer.specs.Read.{payloadAt}
 use Rattle.demuxer.specs.declared.head.Head.{Head}
 use Rattle.demuxer.specs.declared.head.Head.the-variants as head
-use Rattle.chunk_index.specs.Walk.{Kind, frame, sound, Walk, stop, chunk, ranOut, trailer, unknownTag, chunkAt, onHead, walkFor, walk}
+use Rattle.chunk_index.specs.Walk.{frame, sound, Walk, chunk, onHead, walkFor, walk}
 
 -- past the end there is no header
 head-out : (file : List ℕ) (at : ℕ) → length file < at + 8 → headAt file at ≡ head.Short

@@ -1,18 +1,16 @@
 -- The second pass: what has been written, and what is left to write. Assumes nothing.
-use mathlib.Core.Path.{_≡_, refl, sym, ap, _∙_, subst}
-use mathlib.Core.List.{List, [], _∷_, _++_}
-use Prim.Native.Nat.{ℕ, suc, _+_, _-_, _*_, _≤_, _<_}
-use native.Mathlib.Nat.{add-zero}
+use mathlib.Core.Path.{_≡_, refl, sym, ap, _∙_}
+use mathlib.Core.List.{List, [], _∷_}
+use Prim.Native.Nat.{ℕ, _+_, _-_, _*_, _≤_, _<_}
 use native.Mathlib.Omega.{arith}
-use lib.ListN.{length, take, drop, take-append-drop}
-use Rattle.fields.specs.File.{fileLimit}
+use lib.ListN.{length}
 use Rattle.fields.specs.Le.{put}
 use Rattle.fields.proofs.Laws.{put-nothing, put-put, length-put}
 use Rattle.demuxer.specs.Head.{countOf}
 use Rattle.demuxer.specs.Position.{start, InRange, pastFrame, pastSound}
 use Rattle.demuxer.specs.Read.{payloadAt}
 use Rattle.demuxer.specs.declared.position.Position.{Position}
-use Rattle.chunk_index.specs.Walk.{frame, sound, walk, past}
+use Rattle.chunk_index.specs.Walk.{frame, sound, walk}
 use Rattle.chunk_index.specs.Entry.{Small, entry, entryBytes, tableBytes}
 use Rattle.chunk_index.specs.Index.{fileWalk, records}
 use Rattle.chunk_index.specs.Steps.{Walked, indexedAt, onIndexed, stepAt}

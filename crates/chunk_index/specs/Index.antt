@@ -1,6 +1,5 @@
 -- `build_chunk_index` and the summary. Assumes nothing.
-use Prim.Native.Nat.{ℕ, suc, _+_, _*_, min}
-use mathlib.Core.Path.{_≡_}
+use Prim.Native.Nat.{ℕ, _+_, _*_, min}
 use mathlib.Core.Bool.{Bool, true, cond}
 use mathlib.Core.List.{List, [], _∷_}
 use lib.Dec.{leb}

@@ -1,15 +1,14 @@
 -- One read, by what stands at the cursor. Assumes nothing.
-use mathlib.Core.Path.{_≡_, refl, sym, ap, _∙_}
+use mathlib.Core.Path.{_≡_, _∙_}
 use mathlib.Core.Bool.{Bool, true, false, cond}
 use mathlib.Core.List.{List}
 use Prim.Native.Nat.{ℕ, _+_}
-use lib.Dec.{leb}
-use lib.ListN.{length, take, drop}
+use lib.ListN.{take, drop}
 use Rattle.demuxer.specs.Head.{bodyAt, countOf}
 use Rattle.demuxer.specs.Packet.{durationOf, payloadOf, shownOf}
 use Rattle.fields.specs.File.{withinLimit}
 use Rattle.demuxer.specs.Position.{inRange, pastFrame, pastSound}
-use Rattle.demuxer.specs.Read.{ReadAnswer, Reading, End, saidRead, cutOff, advanced, readFrame, readSound, readChunk, readOf}
+use Rattle.demuxer.specs.Read.{End, saidRead, cutOff, advanced, readFrame, readSound, readChunk, readOf}
 use Rattle.demuxer.specs.declared.head.Body.the-variants.{Whole, Short}
 use Rattle.demuxer.specs.declared.packet.PacketDuration.{PacketDuration}
 use Rattle.demuxer.specs.declared.packet.PacketDuration.the-variants.{Ticks}

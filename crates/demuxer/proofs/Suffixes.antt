@@ -1,15 +1,15 @@
 -- What stands where a part of the file begins: bytes written are headers read. Assumes nothing.
 use mathlib.Core.Path.{_≡_, refl, sym, ap, _∙_}
 use mathlib.Core.Bool.{true, false}
-use mathlib.Core.List.{List, [], _∷_, _++_}
+use mathlib.Core.List.{List, _++_}
 use Prim.Native.Nat.{ℕ, _+_, _^_, _≤_, _<_}
 use native.Mathlib.Nat.{add-zero}
 use native.Mathlib.Omega.{arith}
-use lib.ListN.{length, take, drop, length-append}
+use lib.ListN.{length, take, length-append}
 use lib.Seq.{drop-append-add, take-at}
 use Rattle.fields.specs.Le.{le, leBytes}
 use Rattle.fields.proofs.Laws.{le-append-right, le-leBytes}
-use Rattle.demuxer.specs.Head.{trailerTag, trailerSize, isTrailer, chunkHead, headAt}
+use Rattle.demuxer.specs.Head.{isTrailer, chunkHead, headAt}
 use Rattle.demuxer.specs.Read.{payloadAt}
 use Rattle.demuxer.specs.declared.head.Head.the-variants.{Trailer}
 use Rattle.demuxer.proofs.Heads.{head-trailer, head-chunk}

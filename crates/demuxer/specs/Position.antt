@@ -2,9 +2,6 @@
 use Prim.Native.Nat.{ℕ, _+_, _≤_}
 use mathlib.Core.Bool.{Bool, _&&_}
 use lib.Dec.{leb}
-use Rattle.demuxer.specs.declared.position.FrameStamp.{FrameStamp}
-use Rattle.demuxer.specs.declared.position.SampleStamp.{SampleStamp}
-use Rattle.demuxer.specs.declared.position.BlockCount.{BlockCount}
 use Rattle.demuxer.specs.declared.position.Position.{Position}
 
 -- 01: "A fresh one starts at 316 with zero counters"

@@ -3,7 +3,7 @@ use mathlib.Core.Path.{_≡_, refl, sym, ap, _∙_}
 use mathlib.Core.Bool.{Bool, true, false}
 use Prim.Native.Nat.{ℕ}
 use native.Mathlib.Omega.{arith}
-use Rattle.error.specs.Answer.{Answer, accepted, refused, numbered, ask, andThen}
+use Rattle.error.specs.Answer.{Answer, accepted, refused, ask, andThen}
 use Rattle.error.specs.Refusal.{refusalOf, said}
 use Rattle.error.specs.declared.AmvError.{AmvError}
 use Rattle.error.specs.declared.AmvResult.{AmvResult}

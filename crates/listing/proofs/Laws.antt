@@ -1,12 +1,11 @@
 -- What the functions cite: words put one after another, and a line that fits or does not. Assumes nothing.
 use mathlib.Core.Path.{_≡_, refl, ap, _∙_}
-use mathlib.Core.List.{List, _++_, append-assoc}
+use mathlib.Core.List.{List, _++_}
 use Prim.Native.Nat.{ℕ, _+_, _-_, _≤_, _<_}
-use native.Mathlib.Numerals.{add-one}
 use native.Mathlib.Omega.{arith}
 use borrow.Author.Tests.{le-leb, lt-leb}
-use lib.ListN.{length, getD, set, take, drop, length-append, length-drop}
-use lib.Seq.{paste, paste-suc, take-all, take-length, take-at}
+use lib.ListN.{length, take, drop, length-append, length-drop}
+use lib.Seq.{take-all, take-at}
 use Rattle.fields.specs.Le.{put}
 use Rattle.fields.proofs.Laws.{put-put, length-put}
 use Rattle.listing.specs.Listing.{listed, Meets}

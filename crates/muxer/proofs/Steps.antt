@@ -3,12 +3,10 @@ use mathlib.Core.Path.{_≡_, refl, sym, ap, _∙_}
 use mathlib.Core.Bool.{Bool, true, false, not, _&&_}
 use mathlib.Core.List.{List, _++_, append-assoc}
 use Prim.Native.Nat.{ℕ, _+_, _≤_, _<_, min}
-use native.Mathlib.Numerals.{add-one}
 use native.Mathlib.Omega.{arith}
 use borrow.Author.Tests.{le-leb, leb-true, not-true}
 use lib.Dec.{leb}
-use lib.ListN.{length, getD, set, length-append}
-use lib.Seq.{paste, paste-suc, take-length}
+use lib.ListN.{length, length-append}
 use Rattle.chunk.specs.Chunk.{streamTag}
 use Rattle.error.specs.Answer.{Answer, accepted, refused, ask, andThen}
 use Rattle.error.specs.Refusal.{refusalOf, said}

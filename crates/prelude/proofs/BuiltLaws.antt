@@ -1,25 +1,22 @@
 -- A built prelude, read. Assumes nothing.
 use mathlib.Core.Path.{_≡_, refl, sym, ap, _∙_}
 use mathlib.Core.Bool.{true}
-use mathlib.Core.List.{List, [], _∷_, _++_}
-use Prim.Native.Nat.{ℕ, zero, suc, _+_, _*_, _/_, _^_, _≤_, _<_, min}
+use mathlib.Core.List.{List, _++_}
+use Prim.Native.Nat.{ℕ, zero, suc, _+_, _/_, _^_, _<_}
 use native.Mathlib.Nat.{div-le-self}
 use native.Mathlib.Omega.{arith}
-use borrow.Author.Tests.{le-leb, eq-eqb, ne-eqb, lt-ltb}
-use lib.Dec.{eqb}
-use lib.ListN.{length, take, drop}
+use borrow.Author.Tests.{eq-eqb, ne-eqb, lt-ltb}
+use lib.ListN.{length, drop}
 use lib.Seq.{take-at}
-use Rattle.error.specs.Answer.{Answer, accepted, ask, andThen}
+use Rattle.error.specs.Answer.{accepted}
 use Rattle.fields.specs.Capped.{quotient}
 use Rattle.fields.specs.Le.{le, leBytes, put}
 use Rattle.fields.proofs.Laws.{le-leBytes}
 use Rattle.fields.specs.File.{withinLimit}
 use Rattle.parse.specs.Header.{headerFields, headerSentinels}
 use Rattle.parse.specs.WaveFormat.{averageOf, cbSizeOf, waveFormatFields, waveFormatSentinels}
-use Rattle.parse.specs.declared.header.AmvHeader.{AmvHeader}
-use Rattle.parse.specs.declared.wave_format.AmvWaveFormat.{AmvWaveFormat}
 use Rattle.prelude.specs.Layout.{layout, askWord, askBody, askItems}
-use Rattle.prelude.specs.Prelude.{between, preludeFields, parseOf, zeros, zeroRanges, validatedOf, strictOf}
+use Rattle.prelude.specs.Prelude.{preludeFields, parseOf, zeros, zeroRanges, validatedOf, strictOf}
 use Rattle.prelude.specs.Built.{preludeBytes}
 use Rattle.prelude.specs.declared.prelude.AmvPrelude.{AmvPrelude}
 use Rattle.prelude.proofs.Local.{strict-local}

@@ -1,5 +1,5 @@
 -- The layout, item by item; a file that passes it has the whole prelude. Assumes nothing.
-use mathlib.Core.Path.{_≡_, refl, sym, ap, _∙_}
+use mathlib.Core.Path.{_≡_}
 use mathlib.Core.List.{List, [], _∷_}
 use Prim.Native.Nat.{ℕ, zero, suc, _+_, _≤_, _<_}
 use native.Mathlib.Numerals.{add-one}
@@ -7,7 +7,7 @@ use borrow.Author.Tests.{leb-true}
 use lib.Dec.{leb}
 use lib.ListN.{length, drop, getD}
 use lib.Seq.{drop-cons}
-use Rattle.error.specs.Answer.{Answer, accepted, numbered, ask, andThen}
+use Rattle.error.specs.Answer.{accepted, numbered, andThen}
 use Rattle.error.proofs.Answers.{then-passed, ask-passed}
 use Rattle.prelude.specs.Layout.{layout, past, askWord, askItem, askItems, movi}
 use Rattle.fields.specs.File.{withinLimit}

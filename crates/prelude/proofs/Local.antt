@@ -1,23 +1,21 @@
 -- The prelude's questions look at the first 316 bytes alone. Assumes nothing.
-use mathlib.Core.Path.{_≡_, refl, sym, ap, _∙_}
-use mathlib.Core.Bool.{Bool, true}
-use mathlib.Core.List.{List, [], _∷_, _++_}
-use Prim.Native.Nat.{ℕ, zero, suc, _+_, _-_, _≤_, _<_}
+use mathlib.Core.Path.{_≡_, refl, sym, _∙_}
+use mathlib.Core.Bool.{true}
+use mathlib.Core.List.{List, [], _∷_}
+use Prim.Native.Nat.{ℕ, zero, suc, _+_, _-_, _≤_}
 use native.Mathlib.Decide.{decLe}
 use native.Mathlib.Nat.{lt-of-not-le}
 use native.Mathlib.Omega.{arith}
 use borrow.Author.Tests.{le-leb, lt-leb, leb-true}
 use lib.Dec.{leb}
-use lib.ListN.{length, take, drop, getD, length-take}
-use lib.Seq.{take-take, take-nil, getD-take, take-at}
-use Rattle.error.specs.Answer.{Answer, accepted, numbered, ask, andThen}
+use lib.ListN.{length, take, drop, length-take}
+use lib.Seq.{take-take, take-nil, getD-take}
+use Rattle.error.specs.Answer.{Answer, numbered, andThen}
 use Rattle.error.specs.declared.Refusal.{Refusal}
 use Rattle.fields.proofs.Laws.{le-take}
 use Rattle.fields.specs.File.{withinLimit, fileLimit}
-use Rattle.parse.specs.Header.{headerFields}
-use Rattle.parse.specs.WaveFormat.{waveFormatFields}
 use Rattle.prelude.specs.Layout.{layout, askWord, askBody, askItem, askItems}
-use Rattle.prelude.specs.Prelude.{between, preludeFields, parseOf, zeros, zeroRanges, validatedOf, strictOf}
+use Rattle.prelude.specs.Prelude.{preludeFields, parseOf, zeros, zeroRanges, validatedOf, strictOf}
 use Rattle.prelude.specs.Stores.{Within}
 use Rattle.prelude.specs.declared.layout.LayoutItem.{LayoutItem}
 use Rattle.prelude.specs.declared.layout.LayoutItem.the-variants.{Tag, Size, Body}

@@ -1,11 +1,11 @@
 -- A stretch of zeros, byte by byte. Assumes nothing.
-use mathlib.Core.Path.{_≡_, refl, sym}
+use mathlib.Core.Path.{_≡_}
 use mathlib.Core.List.{List}
-use Prim.Native.Nat.{ℕ, suc, _+_, _-_, _<_, _≤_}
+use Prim.Native.Nat.{ℕ, suc, _+_, _-_, _<_}
 use native.Mathlib.Omega.{arith}
 use borrow.Author.Tests.{eq-eqb, ne-eqb}
 use lib.ListN.{getD}
-use Rattle.error.specs.Answer.{refused, numbered, accepted}
+use Rattle.error.specs.Answer.{refused, numbered}
 use Rattle.prelude.specs.Prelude.{zeros}
 
 module _ (file : List ℕ) (place len i : ℕ) (h : i < len) where

@@ -1,7 +1,6 @@
 -- The prelude's tags, character by character. Assumes nothing.
 use mathlib.Core.Path.{_≡_}
-use mathlib.Core.List.{List, [], _∷_}
-use Prim.Native.Nat.{ℕ}
+use mathlib.Core.List.{[], _∷_}
 use Rattle.fields.specs.Le.{leBytes}
 use Rattle.prelude.specs.Layout.{RIFF, AMV, LIST, hdrl, amvh, strl, strh, strf, movi}
 

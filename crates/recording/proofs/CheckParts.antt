@@ -1,11 +1,10 @@
 -- The small tests of the check. Assumes nothing.
-use mathlib.Core.Path.{_≡_, refl, sym, ap, _∙_}
-use mathlib.Core.Bool.{Bool, true, false, cond}
+use mathlib.Core.Path.{_≡_, ap, _∙_}
+use mathlib.Core.Bool.{true, false}
 use mathlib.Core.List.{List}
 use Prim.Native.Nat.{ℕ, _+_, _-_, _≤_}
 use native.Mathlib.Omega.{arith}
 use borrow.Author.Tests.{eq-eqb, ne-eqb}
-use lib.Dec.{leb, eqb}
 use lib.ListN.{length}
 use Rattle.demuxer.specs.Head.{headAt, bodyAt}
 use Rattle.demuxer.specs.declared.head.Head.{Head}
@@ -15,7 +14,6 @@ use Rattle.demuxer.proofs.Bodies.{body-short, body-whole}
 use Rattle.chunk_index.proofs.Walks.{head-there}
 use Rattle.error.specs.declared.AmvError.the-variants.{ChunkCut, AfterTrailer}
 use Rattle.recording.specs.CheckSteps.{wholeAt, onHeadChecked, checkedAt}
-use Rattle.recording.specs.declared.check.Checked.{Checked}
 use Rattle.recording.specs.declared.check.Checked.the-variants.{Last, Refused, Frame, Sound}
 
 -- each header that is one lies in the file

@@ -1,14 +1,13 @@
 -- A step of the check's code is a step of the check's walk. Assumes nothing.
 use mathlib.Core.Path.{_≡_, refl, sym, ap, ap₂, _∙_, subst}
 use mathlib.Core.Bool.{Bool, true, false, cond, _&&_}
-use mathlib.Core.List.{List, [], _∷_, _++_}
-use Prim.Native.Nat.{ℕ, zero, suc, _+_, _-_, _*_, _≤_, _<_}
+use mathlib.Core.List.{List, [], _∷_}
+use Prim.Native.Nat.{ℕ, suc, _+_, _-_, _≤_, _<_}
 use native.Mathlib.Numerals.{add-one}
-use native.Mathlib.Nat.{add-zero}
 use native.Mathlib.Omega.{arith}
-use borrow.Author.Tests.{le-leb, leb-true, leb-false, eqb-true, eqb-false, eq-eqb, ne-eqb}
-use lib.Dec.{leb, eqb}
-use lib.ListN.{length, take, drop, length-take, length-drop}
+use borrow.Author.Tests.{leb-true, leb-false, eqb-true, eqb-false, eq-eqb, ne-eqb}
+use lib.Dec.{eqb}
+use lib.ListN.{length, length-take, length-drop}
 use Rattle.chunk.specs.Chunk.{videoTag, audioTag, kindOf}
 use Rattle.chunk.specs.Interleave.{interleave, interleaveAt, interleaveFrom, even}
 use Rattle.error.specs.Answer.{Answer, accepted, refused, numbered, ask, andThen}
@@ -22,10 +21,9 @@ use Rattle.demuxer.specs.declared.head.Head.{Head}
 use Rattle.demuxer.specs.declared.head.Head.the-variants as head
 use Rattle.demuxer.specs.declared.position.Position.{Position}
 use Rattle.chunk_index.specs.Entry.{kindTag}
-use Rattle.chunk_index.specs.Steps.{Walked}
 use Rattle.chunk_index.specs.Walk.{Kind, frame, sound, Walk, stop, chunk, ranOut, trailer, unknownTag, onHead, walk, past}
 use Rattle.chunk_index.proofs.Walks.{head-there, walk-step, payload-size}
-use Rattle.recording.specs.Check.{passes, tagsOf, checkStop, checkFrom}
+use Rattle.recording.specs.Check.{passes, tagsOf, checkFrom}
 use Rattle.recording.specs.CheckSteps.{wholeAt, onHeadChecked, checkedAt}
 use Rattle.recording.specs.declared.check.Checked.{Checked}
 use Rattle.recording.specs.declared.check.Checked.the-variants as checked

@@ -3,18 +3,18 @@ use mathlib.Core.Path.{_≡_, refl, sym, ap, ap₂, _∙_}
 use mathlib.Core.Bool.{Bool, true, false, cond, _&&_}
 use mathlib.Core.List.{List, [], _∷_, _++_, append-assoc, append-nil}
 use Prim.Native.Nat.{ℕ, zero, suc, _+_, _-_, _^_, _≤_, _<_}
-use native.Mathlib.Nat.{add-zero, zero-add}
+use native.Mathlib.Nat.{zero-add}
 use native.Mathlib.Omega.{arith}
 use borrow.Author.Tests.{le-leb, leb-true, eqb-true}
 use lib.Dec.{leb, eqb}
-use lib.ListN.{length, take, drop, length-append, length-take, length-drop, take-append-drop, drop-of-length-le}
-use lib.Seq.{take-at, drop-at, drop-drop, take-all, take-add}
+use lib.ListN.{length, take, drop, length-append, length-take, take-append-drop, drop-of-length-le}
+use lib.Seq.{take-at, drop-drop}
 use Rattle.chunk.specs.Chunk.{videoTag, audioTag, kindOf, trailerBytes}
 use Rattle.chunk.specs.Interleave.{interleave}
 use Rattle.chunk.specs.declared.ChunkKind.{ChunkKind}
 use Rattle.chunk.specs.declared.ChunkKind.the-variants.{Video, Audio, Other}
 use Rattle.chunk.proofs.Chunks.{kind-video, kind-audio}
-use Rattle.error.specs.Answer.{Answer, accepted, refused, ask, andThen}
+use Rattle.error.specs.Answer.{Answer, accepted, refused, andThen}
 use Rattle.error.proofs.Answers.{ask-passed}
 use Rattle.fields.specs.File.{fileLimit, withinLimit}
 use Rattle.fields.specs.Le.{le, leBytes, Bytes}
@@ -23,17 +23,17 @@ use Rattle.prelude.specs.Prelude.{parseOf, validatedOf, strictOf}
 use Rattle.prelude.specs.declared.prelude.AmvPrelude.{AmvPrelude}
 use Rattle.prelude.proofs.Layouts.{parsed-length}
 use Rattle.prelude.proofs.Local.{strict-local}
-use Rattle.demuxer.specs.Head.{trailerTag, trailerSize, isTrailer, kindHead, chunkHead, headAt, countOf}
+use Rattle.demuxer.specs.Head.{trailerTag, trailerSize, isTrailer, kindHead, chunkHead, headAt}
 use Rattle.demuxer.specs.Position.{start}
 use Rattle.demuxer.specs.Read.{payloadAt}
 use Rattle.demuxer.specs.declared.head.Head.{Head}
 use Rattle.demuxer.specs.declared.head.Head.the-variants as head
 use Rattle.demuxer.specs.declared.position.Position.{Position}
-use Rattle.chunk_index.specs.Walk.{Kind, frame, sound, Walk, stop, chunk, ranOut, trailer, unknownTag, onHead, walkFor, walk, past}
+use Rattle.chunk_index.specs.Walk.{Kind, frame, sound, Walk, stop, chunk, ranOut, trailer, onHead, walkFor, walk, past}
 use Rattle.chunk_index.specs.Chunks.{Chunk, chunkOf, chunkBytes, chunksBytes, Lengths, walkOf}
 use Rattle.chunk_index.specs.Entry.{kindTag}
 use Rattle.chunk_index.proofs.Chunked.{chunks-walked}
-use Rattle.recording.specs.Check.{passes, tagsOf, checkStop, checkFrom, checkOf, chunkTags, totalsOf, CheckIsGrammar}
+use Rattle.recording.specs.Check.{passes, tagsOf, checkFrom, checkOf, chunkTags, totalsOf, CheckIsGrammar}
 use Rattle.recording.specs.declared.check.Totals.{Totals}
 use Rattle.recording.specs.Drain.{frames, samples, blocks}
 use Rattle.recording.specs.Grammar.{Finished}

@@ -1,6 +1,5 @@
 -- The check. Assumes nothing.
 use mathlib.Core.Path.{_≡_}
-use mathlib.Core.Logic.{_↔_}
 use Prim.Native.Nat.{ℕ, _+_}
 use mathlib.Core.Bool.{Bool, true, false}
 use mathlib.Core.List.{List, [], _∷_}
@@ -12,7 +11,7 @@ use Rattle.fields.specs.Le.{Bytes}
 use Rattle.demuxer.specs.Position.{start}
 use Rattle.demuxer.specs.declared.position.Position.{Position}
 use Rattle.prelude.specs.Prelude.{strictOf}
-use Rattle.chunk_index.specs.Walk.{Kind, frame, sound, Stop, ranOut, trailer, unknownTag, Walk, stop, chunk, past, walk}
+use Rattle.chunk_index.specs.Walk.{Stop, ranOut, trailer, unknownTag, Walk, stop, chunk, past, walk}
 use Rattle.chunk_index.specs.Chunks.{Chunk, chunkOf, chunksBytes}
 use Rattle.chunk_index.specs.Entry.{kindTag}
 use Rattle.error.specs.Refusal.{refusalOf}

@@ -4,7 +4,6 @@ use mathlib.Core.Bool.{Bool, cond}
 use mathlib.Core.List.{List}
 use lib.Dec.{leb, eqb}
 use lib.ListN.{length}
-use Rattle.error.specs.declared.AmvError.{AmvError}
 use Rattle.error.specs.declared.AmvError.the-variants.{ChunkCut, AfterTrailer, UnknownTag}
 use Rattle.demuxer.specs.Head.{headAt}
 use Rattle.demuxer.specs.declared.head.Head.{Head}

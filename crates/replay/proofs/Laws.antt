@@ -1,13 +1,13 @@
 -- What rows say, and where they stand.
 use mathlib.Core.Path.{_≡_, refl, sym, ap, _∙_}
-use Prim.Native.Nat.{ℕ, zero, suc, _+_, _*_, _≤_, _<_}
+use Prim.Native.Nat.{ℕ, zero, suc, _+_, _*_, _≤_}
 use mathlib.Core.Bool.{Bool, true, false, _&&_}
 use mathlib.Core.List.{List, [], _∷_, _++_}
 use native.Mathlib.Omega.{arith}
 use borrow.Author.Tests.{eq-eqb, ne-eqb, le-leb}
 use lib.Dec.{eqb}
 use lib.IntN.{ℤ}
-use lib.ListN.{length, getD, set, length-set, length-take, length-drop}
+use lib.ListN.{length, set, length-take, length-drop}
 use Rattle.fields.specs.Le.{put}
 use Rattle.fields.proofs.Laws.{sets, stores-put, getD-put-in, getD-put-before}
 use Rattle.demuxer.specs.Packet.{ticks, payloadOf, shownOf}
