@@ -2,7 +2,6 @@
 use mathlib.Core.Path.{_≡_, refl, sym, ap, subst, _∙_}
 use Prim.Native.Nat.{ℕ, _+_, _-_}
 use mathlib.Core.Bool.{Bool, true, false, cond}
-use mathlib.Core.Bool.{Bool, true, false, cond}
 use mathlib.Core.List.{List, [], _∷_}
 use native.Mathlib.Omega.{arith}
 use lib.IntN.{ℤ}
@@ -27,12 +26,13 @@ use Rattle.demuxer.specs.declared.walker.Walker.{Walker}
 use Rattle.demuxer.specs.declared.walker.Read.{Read}
 use Rattle.demuxer.specs.declared.walker.NextPacket.{NextPacket}
 use Rattle.seek.specs.Seek.{Seeking, seekOf}
-use Rattle.muxer.specs.Writer.{Outcome, Meets}
+use Rattle.muxer.specs.Writer.{Outcome, Meets, outcome, afterPacket, packetQuestions, packetCall}
 use Rattle.muxer.specs.declared.Writer.{Writer}
 use Rattle.muxer.specs.declared.Wrote.{Wrote}
 use Rattle.words.specs.Out.{Says, given, checked, unlessRefused, readWords}
-use Rattle.words.specs.State.{walkerOf, walkerWords, writerOf, writerWords}
+use Rattle.words.specs.State.{walkerOf, walkerWords, writerOf, writerWords, countsInto}
 use Rattle.words.proofs.Laws.{says-refused}
+use Rattle.words.proofs.States.{atCounts, counts-kept}
 use Rattle.capi.specs.Calls.{Walks, nextAnswer, Writes}
 
 -- what holds of both choices
@@ -151,3 +151,21 @@ module _ (call : Writer → Outcome) (ws buf : List ℕ) where
         writer = o ∙ ap writerWords (m .writer) ∙ legal-leaves e ws (λ w. writerWords (call w .writer));
         buffer = m .buffer ∙ legal-leaves e buf (λ w. call w .buffer);
       }
+
+-- a packet moves the counts alone
+outcome-counts : (q : Answer Unit) (w : Writer) (buf : List ℕ) (size stream : ℕ) (after : List ℕ)
+    → let v = outcome q w buf (afterPacket w size stream) after .writer in
+    v ≡ atCounts w (v .written) (v .frames)
+outcome-counts (accepted u) w buf size stream after = refl
+outcome-counts (refused r) w buf size stream after = refl
+
+pub packet-words : (ws buf payload : List ℕ) (stream : ℕ) {w : Writer} {r : Wrote} {after words : List ℕ} → writerOf ws ≡ accepted w
+    → Meets (packetCall w payload stream buf) r after → words ≡ countsInto (r .writer .written) (r .writer .frames) ws
+    → words ≡ writerWords (r .writer)
+unfolding packetCall
+packet-words ws buf payload stream {w} e m o =
+    o
+    ∙ ap (λ (v : Writer). countsInto (v .written) (v .frames) ws) (m .writer)
+    ∙ counts-kept ws w _ _ e
+    ∙ ap writerWords (sym (outcome-counts (packetQuestions w (length payload) stream (length buf)) w buf (length payload) stream _))
+    ∙ ap writerWords (sym (m .writer))

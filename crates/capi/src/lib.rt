@@ -21,6 +21,7 @@ use words::walker::mark_word;
 use words::walker::walker_of;
 use words::walker::walker_words;
 use words::writer::WriterState;
+use words::writer::at_counts;
 use words::writer::writer_of;
 use words::writer::writer_words;
 ghost use mathlib.Core.Path.{_≡_};
@@ -225,7 +226,8 @@ pub extern "C" fn amv_write_packet(
     };
     let wrote = state.write_packet(buf, payload, stream);
     let next = wrote.writer;
-    *writer = writer_words(next);
+    // A packet moves two words; from the state all nine would be carried past the copy of the payload.
+    *writer = at_counts(*writer, next.written, next.frames);
     // Answered here and not by result_out: packets are many, and the call alone would take a third of the time.
     let result = wrote.result;
     match result {

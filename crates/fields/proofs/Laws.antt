@@ -8,7 +8,7 @@ use native.Mathlib.Numerals.{add-one}
 use native.Mathlib.Omega.{arith}
 use lib.Arith.{mod-mul}
 use lib.ListN.{length, getD, set, length-set, take, drop, length-append, length-take, length-drop, take-append-drop, List·getD-append, List·getD-eq-default}
-use lib.Seq.{paste, paste-suc, take-length, length-take-le, drop-cons, set-split, getD-append-add, getD-drop, getD-take, drop-append-add, drop-drop, take-at}
+use lib.Seq.{paste, paste-suc, take-length, length-take-le, drop-cons, set-split, getD-append-add, getD-drop, getD-take, drop-append-add, drop-drop, take-at, take-add}
 use Rattle.fields.specs.Le.{le, leBytes, put, putLe, Bytes}
 
 -- ---- reading
@@ -149,6 +149,21 @@ copy-more xs off src i h l e = rw (add-one, e) (paste-suc xs off src i 0 (omega 
 pub copy-done : (xs : List ℕ) (off : ℕ) (src : List ℕ) (i : ℕ) → i ≡ length src → paste xs off src i ≡ put xs off src
 unfolding put
 copy-done xs off src i e = rw (e, take-length, append-assoc)
+
+-- what was written at the front is what stands there
+pub take-put : (xs ys : List ℕ) {zs : List ℕ} → zs ≡ put xs 0 ys → take (length ys) zs ≡ ys
+unfolding put
+take-put xs ys e = rw e (take-at ys _ _ refl)
+
+-- a turn of the loop that copies a part at a time; a part from i up to j is `take (j - i) (drop i src)`
+pub part-copied : (xs : List ℕ) (off : ℕ) (src : List ℕ) (i j : ℕ) {ys : List ℕ} → off + length src ≤ length xs → i ≤ j → j ≤ length src
+    → ys ≡ put xs off (take i src) → put ys (off + i) (take (j - i) (drop i src)) ≡ put xs off (take j src)
+part-copied xs off src i j h l m e =
+    let t : length (take i src) ≡ i = length-take-le i src (omega arith) in
+    let o : off + i ≡ off + length (take i src) = omega arith in
+    let n : i + (j - i) ≡ j = omega arith in
+    rw (e, o) (put-put xs off (take i src) (take (j - i) (drop i src)) (omega arith))
+    ∙ ap (put xs off) (sym (take-add i (j - i) src) ∙ ap (λ (k : ℕ). take k src) n)
 
 -- numbers stored one after the other, from a number on
 unfoldable pub sets : List ℕ → ℕ → ℕ → List ℕ → List ℕ

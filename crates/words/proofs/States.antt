@@ -12,7 +12,8 @@ use Rattle.error.specs.Answer.{accepted}
 use Rattle.demuxer.specs.Read.{advanced}
 use Rattle.demuxer.specs.declared.position.Position.{Position}
 use Rattle.demuxer.specs.declared.walker.Walker.{Walker}
-use Rattle.words.specs.State.{word, markOf, markWord, notMet, trailerOf, trailerWord, askState, walkerLegal, walkerOf, walkerWords, positionInto, settingsLegal, writerLegal, writerWords, WordsStand}
+use Rattle.muxer.specs.declared.Writer.{Writer}
+use Rattle.words.specs.State.{word, markOf, markWord, notMet, trailerOf, trailerWord, askState, walkerLegal, walkerOf, walkerWords, positionInto, settingsLegal, writerLegal, writerOf, writerWords, countsInto, WordsStand}
 
 -- ---- a list by its elements
 
@@ -73,6 +74,21 @@ position-kept ws w p e =
     let d = decoded (walkerLegal ws) e in
     let m = both (leb (word ws 4) 1) (leb (word ws 5) 1) (d .0) in
     sym (ap (λ v. walkerWords (advanced v p)) (d .1) ∙ rw (mark-kept (word ws 4) (m .0), mark-kept (word ws 5) (m .1), trailer-kept (word ws 6)) refl)
+
+-- at other counts only the last two
+abbrev pub atCounts : Writer → ℕ → ℕ → Writer
+atCounts w written frames = record { settings = w .settings; begun = w .begun; ended = w .ended; written = written; frames = frames }
+
+pub counts-kept : (ws : List ℕ) (w : Writer) (written frames : ℕ) → writerOf ws ≡ accepted w
+    → countsInto written frames ws ≡ writerWords (atCounts w written frames)
+unfolding writerLegal
+counts-kept ws w written frames e =
+    let d = decoded (writerLegal ws) e in
+    let m = both (settingsLegal ws && leb (word ws 5) 1) (leb (word ws 6) 1) (d .0) in
+    let b = both (settingsLegal ws) (leb (word ws 5) 1) (m .0) in
+    sym
+    (ap (λ v. writerWords (atCounts v written frames)) (d .1)
+    ∙ rw (mark-kept (word ws 5) (b .1), mark-kept (word ws 6) (m .1)) refl)
 
 pub words-stand : WordsStand
 unfolding walkerLegal writerLegal wordsFrom

@@ -100,6 +100,11 @@ writerWords w =
     let s = w .settings in
     s .width ∷ s .height ∷ s .fps ∷ s .rate ∷ s .channels ∷ markWord (w .begun) ∷ markWord (w .ended) ∷ w .written ∷ w .frames ∷ []
 
+-- the words of the same writer at other counts
+abbrev pub countsInto : ℕ → ℕ → List ℕ → List ℕ
+countsInto written frames ws =
+    word ws 0 ∷ word ws 1 ∷ word ws 2 ∷ word ws 3 ∷ word ws 4 ∷ word ws 5 ∷ word ws 6 ∷ written ∷ frames ∷ []
+
 abbrev pub saidWriter : WriterState → Answer Writer
 saidWriter (writer.Legal w) = accepted w
 saidWriter writer.Illegal = refused (numbered 1 0)

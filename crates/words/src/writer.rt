@@ -3,7 +3,7 @@ use crate::walker::mark_word;
 use muxer::Settings;
 use muxer::Writer;
 ghost use mathlib.Core.Path.{_≡_};
-ghost use Rattle.words.specs.State.{writerOf, saidWriter, writerWords};
+ghost use Rattle.words.specs.State.{writerOf, saidWriter, writerWords, countsInto};
 
 // The writer of nine words, if each is in its field's range.
 pub enum WriterState {
@@ -66,5 +66,22 @@ pub fn writer_words(writer: Writer) -> [u64; 9]
         mark_word(writer.ended),
         writer.written,
         writer.frames,
+    ]
+}
+
+// The words of the same writer at other counts: the settings and the marks stay.
+pub fn at_counts(words: [u64; 9], written: u64, frames: u64) -> [u64; 9]
+    ensures { λ r. ⌜ r ≡ countsInto written frames words ⌝ }
+{
+    [
+        words[0],
+        words[1],
+        words[2],
+        words[3],
+        words[4],
+        words[5],
+        words[6],
+        written,
+        frames,
     ]
 }

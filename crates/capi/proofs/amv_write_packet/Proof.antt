@@ -4,7 +4,7 @@ use Rattle.muxer.specs.Writer.{packetCall}
 use Rattle.words.specs.Out.{checked}
 use Rattle.words.specs.State.{saidWriter}
 use Rattle.words.proofs.Laws.{says-accepted, says-error}
-use Rattle.capi.proofs.Laws.{known, writes, writes-illegal}
+use Rattle.capi.proofs.Laws.{known, packet-words, writes, writes-illegal}
 use borrow.Author.Needs.{needs}
 use Rattle.capi.proofs.amv_write_packet.Statement.{statement}
 use Rattle.capi.proofs.amv_write_packet.Tie as tie
@@ -13,78 +13,80 @@ use Rattle.capi.proofs.amv_write_packet.Lts as lts
 use Rattle.error.proofs.AmvError.number.Reads as number-reads
 use Rattle.error.proofs.AmvError.place.Reads as place-reads
 use Rattle.muxer.proofs.Writer.write_packet.Reads as write-packet-reads
+use Rattle.words.proofs.writer.at_counts.Reads as at-counts-reads
 use Rattle.words.proofs.writer.writer_of.Reads as writer-of-reads
-use Rattle.words.proofs.writer.writer_words.Reads as writer-words-reads
 
--- src/lib.rt:217:37
+-- src/lib.rt:223:37
 writer-of-requires : tie.Need-writer-of-requires
 writer-of-requires c κs = search needs
 
--- src/lib.rt:217:28
+-- src/lib.rt:223:28
 enum-known-state : tie.Need-enum-known-state
 enum-known-state c = search needs
 
--- src/lib.rt:218:9
+-- src/lib.rt:224:9
 enum-told : tie.Need-enum-told
 enum-told c = search needs
 
--- src/lib.rt:219:9
+-- src/lib.rt:225:9
 returns : tie.Need-returns
 returns c =
     writes-illegal _ _ _ (known saidWriter (c .before .before .before .writer-of .ensures) (c .before .enum-told .given .1))
 
--- src/lib.rt:221:9
+-- src/lib.rt:227:9
 write-packet-requires : tie.Need-write-packet-requires
 write-packet-requires c κs = search needs
 
--- src/lib.rt:223:15
-writer-words-requires : tie.Need-writer-words-requires
-writer-words-requires c κs = search needs
+-- src/lib.rt:230:15
+at-counts-requires : tie.Need-at-counts-requires
+at-counts-requires c κs = search needs
 
--- src/lib.rt:227:13
+-- src/lib.rt:235:13
 enum-told-2 : tie.Need-enum-told-2
 enum-told-2 c = search needs
 
--- src/lib.rt:230:24
+-- src/lib.rt:238:24
 enum-known-result : tie.Need-enum-known-result
 enum-known-result c = search needs
 
--- src/lib.rt:231:21
+-- src/lib.rt:239:21
 place-requires : tie.Need-place-requires
 place-requires c κs = search needs
 
--- src/lib.rt:232:13
+-- src/lib.rt:240:13
 number-requires : tie.Need-number-requires
 number-requires c κs = search needs
 
--- src/lib.rt:207:1
+-- src/lib.rt:213:1
 same-length : tie.Need-same-length
 same-length c = search needs
 
--- src/lib.rt:207:1
+-- src/lib.rt:213:1
 returns-2 : tie.Need-returns-2
 returns-2 c =
     let w = c .before .before .before in
-    let m = w .before .before .before .before in
+    let m = w .before .before .before .before .before in
     let s = m .before .before .before in
     let a = s .before .before .before .before .before .before .args in
     let legal = known saidWriter (s .before .before .writer-of .ensures) (s .state .given .1) in
-    writes (λ w. packetCall w (a .payload .now) (a .stream) (a .buf .now)) (a .writer .now) (a .buf .now) legal (m .write-packet .ensures) (w .writer-words .ensures)
+    writes (λ w. packetCall w (a .payload .now) (a .stream) (a .buf .now)) (a .writer .now) (a .buf .now) legal (m .write-packet .ensures)
+    (packet-words (a .writer .now) (a .buf .now) (a .payload .now) (a .stream) legal (m .write-packet .ensures) (w .at-counts .ensures))
     (says-accepted 1 (ap (λ r. checked (said r)) (c .before .enum-told2 .given .1)) refl)
 
--- src/lib.rt:207:1
+-- src/lib.rt:213:1
 same-length-2 : tie.Need-same-length-2
 same-length-2 c = search needs
 
--- src/lib.rt:207:1
+-- src/lib.rt:213:1
 returns-3 : tie.Need-returns-3
 returns-3 c =
     let w = c .before .before .before .before .before .before in
-    let m = w .before .before .before .before in
+    let m = w .before .before .before .before .before in
     let s = m .before .before .before in
     let a = s .before .before .before .before .before .before .args in
     let legal = known saidWriter (s .before .before .writer-of .ensures) (s .state .given .1) in
-    writes (λ w. packetCall w (a .payload .now) (a .stream) (a .buf .now)) (a .writer .now) (a .buf .now) legal (m .write-packet .ensures) (w .writer-words .ensures)
+    writes (λ w. packetCall w (a .payload .now) (a .stream) (a .buf .now)) (a .writer .now) (a .buf .now) legal (m .write-packet .ensures)
+    (packet-words (a .writer .now) (a .buf .now) (a .payload .now) (a .stream) legal (m .write-packet .ensures) (w .at-counts .ensures))
     (says-error 1 (c .before .before .before .before .result .given .0 .0) (ap (λ r. checked (said r)) (c .before .before .before .before .result .given .1)) (c .number .ensures) (c .before .before .place .ensures))
 
 pub amv-write-packet-spec : {M : Type 1} → statement M
@@ -96,7 +98,7 @@ amv-write-packet-spec =
     enum-told
     returns
     write-packet-requires
-    writer-words-requires
+    at-counts-requires
     enum-told-2
     enum-known-result
     place-requires

@@ -1,60 +1,106 @@
-use mathlib.Core.Path.{_≡_, refl, _∙_}
-use Prim.Native.Nat.{_≤_, _-_}
+use mathlib.Core.Path.{_≡_, refl, sym, ap, _∙_}
+use Prim.Native.Nat.{_+_, _-_, _≤_}
 use native.Mathlib.Omega.{arith}
 use borrow.Author.Needs.{needs}
-use lib.ListN.{length}
-use lib.Seq.{paste, paste-zero}
-use Rattle.fields.proofs.Laws.{copy-more, copy-done}
+use lib.ListN.{length, take}
+use lib.Seq.{take-length}
+use Rattle.fields.specs.Le.{put}
+use Rattle.fields.proofs.Laws.{part-copied, put-nothing}
 use Rattle.fields.proofs.copy_in.Statement.{statement}
 use Rattle.fields.proofs.copy_in.Tie as tie
 use Rattle.fields.proofs.copy_in.Reads as reads
 use Rattle.fields.proofs.copy_in.Lts as lts
+use Rattle.fields.proofs.copy_block.Reads as copy-block-reads
 
 abbrev Inv-loop : tie.InvT-loop
-Inv-loop buf₀ off src i₀ buf i = (i ≤ length src) × (length buf ≡ length buf₀) × (buf ≡ paste buf₀ off src i)
+Inv-loop buf₀ off src i₀ buf i = (i ≤ length src) × (length buf ≡ length buf₀) × (buf ≡ put buf₀ off (take i src))
 
 abbrev μ-loop : tie.MeasureT-loop
 μ-loop buf₀ off src i₀ buf i = length src - i
 
--- src/lib.rt:81:5
+-- src/lib.rt:124:5
 loop-holds : tie.Need-loop-holds Inv-loop μ-loop
-loop-holds c = let a = c .args in (omega arith, refl, paste-zero (a .buf .now) (a .off) (a .src .now))
+loop-holds c = let a = c .before .before .args in (omega arith, refl, sym (put-nothing (a .buf .now) (a .off)))
 
--- src/lib.rt:82:24
-shared-slice-read-buf : tie.Need-shared-slice-read-buf Inv-loop μ-loop
-shared-slice-read-buf c = search needs
+-- src/lib.rt:124:19
+sub-loop : tie.Need-sub-loop Inv-loop μ-loop
+sub-loop c = search needs
 
--- src/lib.rt:82:13
-add-buf : tie.Need-add-buf Inv-loop μ-loop
-add-buf c = search needs
+-- src/lib.rt:125:25
+add-copy-block : tie.Need-add-copy-block Inv-loop μ-loop
+add-copy-block c = search needs
 
--- src/lib.rt:82:9
-slice-write-buf : tie.Need-slice-write-buf Inv-loop μ-loop
-slice-write-buf c = search needs
+-- src/lib.rt:125:42
+add-copy-block-2 : tie.Need-add-copy-block-2 Inv-loop μ-loop
+add-copy-block-2 c = search needs
 
--- src/lib.rt:83:9
+-- src/lib.rt:125:34
+sub-copy-block : tie.Need-sub-copy-block Inv-loop μ-loop
+sub-copy-block c = search needs
+
+-- src/lib.rt:125:34
+part-copy-block-start : tie.Need-part-copy-block-start Inv-loop μ-loop
+part-copy-block-start c = search needs
+
+-- src/lib.rt:125:34
+part-copy-block-end : tie.Need-part-copy-block-end Inv-loop μ-loop
+part-copy-block-end c = search needs
+
+-- src/lib.rt:125:9
+copy-block-requires : tie.Need-copy-block-requires Inv-loop μ-loop
+copy-block-requires c κs = search needs
+
+-- src/lib.rt:126:9
 add-i : tie.Need-add-i Inv-loop μ-loop
 add-i c = search needs
 
--- src/lib.rt:81:5
+-- src/lib.rt:124:5
 loop-less : tie.Need-loop-less Inv-loop μ-loop
 loop-less c = search needs
 
--- src/lib.rt:81:5
+-- src/lib.rt:124:5
 loop-again : tie.Need-loop-again Inv-loop μ-loop
-loop-again c = let a = c .before .before .before .args in
-    let l = c .before .before .loop in
-    (omega arith, search needs, copy-more (a .buf .now) (a .off) (a .src .now) (l .i) (omega arith) (omega arith) (l .inv .2))
+loop-again c =
+    let a = c .before .before .before .before .before .before .before .before .before .args in
+    let l = c .before .before .before .before .before .before .loop in (
+      omega arith,
+      search needs,
+      c .before .before .copy-block .ensures
+          ∙ part-copied (a .buf .now) (a .off) (a .src .now) (l .i) (l .i + 4096) (omega arith) (omega arith) (omega arith) (l .inv .2),
+    )
 
--- src/lib.rt:76:1
+-- src/lib.rt:128:21
+add-copy-block-3 : tie.Need-add-copy-block-3 Inv-loop μ-loop
+add-copy-block-3 c = search needs
+
+-- src/lib.rt:128:30
+sub-copy-block-2 : tie.Need-sub-copy-block-2 Inv-loop μ-loop
+sub-copy-block-2 c = search needs
+
+-- src/lib.rt:128:30
+part-copy-block-start-2 : tie.Need-part-copy-block-start-2 Inv-loop μ-loop
+part-copy-block-start-2 c = search needs
+
+-- src/lib.rt:128:30
+part-copy-block-end-2 : tie.Need-part-copy-block-end-2 Inv-loop μ-loop
+part-copy-block-end-2 c = search needs
+
+-- src/lib.rt:128:5
+copy-block-requires-2 : tie.Need-copy-block-requires-2 Inv-loop μ-loop
+copy-block-requires-2 c κs = search needs
+
+-- src/lib.rt:119:1
 same-length : tie.Need-same-length Inv-loop μ-loop
-same-length c = c .before .loop .inv .1
+same-length c = search needs
 
--- src/lib.rt:76:1
+-- src/lib.rt:119:1
 returns : tie.Need-returns Inv-loop μ-loop
-returns c = let a = c .before .before .args in
-    let l = c .before .loop in
-    l .inv .2 ∙ copy-done (a .buf .now) (a .off) (a .src .now) (l .i) (omega arith)
+returns c =
+    let a = c .before .before .before .before .before .before .before .before .before .args in
+    let l = c .before .before .before .before .before .before .loop in
+    c .before .before .copy-block2 .ensures
+    ∙ part-copied (a .buf .now) (a .off) (a .src .now) (l .i) (length (a .src .now)) (omega arith) (omega arith) (omega arith) (l .inv .2)
+    ∙ ap (put (a .buf .now) (a .off)) (take-length (a .src .now))
 
 pub copy-in-spec : {M : Type 1} → statement M
 copy-in-spec =
@@ -63,11 +109,20 @@ copy-in-spec =
     Inv-loop
     μ-loop
     loop-holds
-    shared-slice-read-buf
-    add-buf
-    slice-write-buf
+    sub-loop
+    add-copy-block
+    add-copy-block-2
+    sub-copy-block
+    part-copy-block-start
+    part-copy-block-end
+    copy-block-requires
     add-i
     loop-less
     loop-again
+    add-copy-block-3
+    sub-copy-block-2
+    part-copy-block-start-2
+    part-copy-block-end-2
+    copy-block-requires-2
     same-length
     returns)
