@@ -7,6 +7,9 @@ use lib.Dec.{eqb}
 use lib.IntN.{ℤ, pos, negsuc}
 use lib.ListN.{length, getD}
 use Rattle.fields.specs.Le.{le}
+use Rattle.chunk_index.specs.Index.{buildOf}
+use Rattle.muxer.specs.Writer.{headerCall, packetCall, trailerCall}
+use Rattle.capi.specs.Calls.{bufferAfter}
 use Rattle.vectors.specs.declared.case.CaseAt.{CaseAt}
 use Rattle.vectors.specs.declared.case.CaseAt.the-variants.{Whole, Short}
 
@@ -44,3 +47,15 @@ writerIn head =
 unfoldable pub tagsIn : List ℕ → ℕ → List ℕ
 tagsIn bytes zero = []
 tagsIn bytes (suc n) = tagsIn bytes n ++ (le 4 bytes (4 * n) ∷ [])
+
+-- the stream in a case's words
+abbrev pub streamIn : List ℕ → ℕ
+streamIn head = getD head 0 0 % 4294967296
+
+-- the lent bytes after a case's call: a table, or a writer's buffer
+abbrev pub lentAfter : ℕ → List ℕ → List ℕ → List ℕ → List ℕ
+lentAfter function bytes head lent =
+    cond (eqb function 3) (buildOf bytes lent .table)
+    (cond (eqb function 4) (bufferAfter (λ w. headerCall w lent) (writerIn head) lent)
+    (cond (eqb function 5) (bufferAfter (λ w. packetCall w bytes (streamIn head) lent) (writerIn head) lent)
+    (bufferAfter (λ w. trailerCall w lent) (writerIn head) lent)))

@@ -12,7 +12,10 @@ ghost use mathlib.Core.Path.{_≡_};
 ghost use Prim.Native.Nat.{_/_, min};
 ghost use lib.ListN.{length, take};
 ghost use Rattle.fields.specs.Le.{put};
-ghost use Rattle.vectors.specs.Cases.{requestOf, tagsIn, walkerIn, writerIn};
+ghost use Rattle.chunk_index.specs.Index.{buildOf};
+ghost use Rattle.muxer.specs.Writer.{headerCall, packetCall, trailerCall};
+ghost use Rattle.capi.specs.Calls.{bufferAfter};
+ghost use Rattle.vectors.specs.Cases.{requestOf, tagsIn, walkerIn, writerIn, streamIn, lentAfter};
 
 // The longest table, buffer or list of tags of a case.
 const BYTES_ROOM: usize = 1024;
@@ -124,7 +127,9 @@ fn run_from_frame_count(head: [u64; 12]) {
 }
 
 // The calls that write print every byte that they were lent.
-fn run_build_chunk_index(file: &[u8], table: &mut [u8]) {
+fn run_build_chunk_index(file: &[u8], table: &mut [u8])
+    ensures { λ _. ⌜ now (table .exit) ≡ buildOf (now (file .entry)) (now (table .entry)) .table ⌝ }
+{
     let mut out = [0u64; 2];
     let number = capi::amv_build_chunk_index(file, table, &mut out);
     print_call(b"build_chunk_index", number);
@@ -149,7 +154,9 @@ fn writer_of(head: [u64; 12]) -> [u64; 9]
     ]
 }
 
-fn run_write_header(head: [u64; 12], buf: &mut [u8]) {
+fn run_write_header(head: [u64; 12], buf: &mut [u8])
+    ensures { λ _. ⌜ now (buf .exit) ≡ bufferAfter (λ w. headerCall w (now (buf .entry))) (writerIn head) (now (buf .entry)) ⌝ }
+{
     let mut writer = writer_of(head);
     let mut out = [0u64; 1];
     let number = capi::amv_write_header(&mut writer, buf, &mut out);
@@ -160,7 +167,9 @@ fn run_write_header(head: [u64; 12], buf: &mut [u8]) {
     print_end();
 }
 
-fn run_write_packet(head: [u64; 12], buf: &mut [u8], payload: &[u8]) {
+fn run_write_packet(head: [u64; 12], buf: &mut [u8], payload: &[u8])
+    ensures { λ _. ⌜ now (buf .exit) ≡ bufferAfter (λ w. packetCall w (now (payload .entry)) (streamIn head) (now (buf .entry))) (writerIn head) (now (buf .entry)) ⌝ }
+{
     let mut writer = writer_of(head);
     let mut out = [0u64; 1];
     let stream = (head[0] % 4294967296) as u32;
@@ -172,7 +181,9 @@ fn run_write_packet(head: [u64; 12], buf: &mut [u8], payload: &[u8]) {
     print_end();
 }
 
-fn run_write_trailer(head: [u64; 12], buf: &mut [u8]) {
+fn run_write_trailer(head: [u64; 12], buf: &mut [u8])
+    ensures { λ _. ⌜ now (buf .exit) ≡ bufferAfter (λ w. trailerCall w (now (buf .entry))) (writerIn head) (now (buf .entry)) ⌝ }
+{
     let mut writer = writer_of(head);
     let mut out = [0u64; 1];
     let number = capi::amv_write_trailer(&mut writer, buf, &mut out);
@@ -197,7 +208,9 @@ fn run_reading(function: usize, bytes: &[u8], head: [u64; 12]) {
     }
 }
 
-fn run_writing(function: usize, bytes: &[u8], lent: &mut [u8], head: [u64; 12]) {
+fn run_writing(function: usize, bytes: &[u8], lent: &mut [u8], head: [u64; 12])
+    ensures { λ _. ⌜ now (lent .exit) ≡ lentAfter function (now (bytes .entry)) head (now (lent .entry)) ⌝ }
+{
     if function == Functions::BUILD_CHUNK_INDEX {
         run_build_chunk_index(bytes, lent);
     } else if function == Functions::WRITE_HEADER {

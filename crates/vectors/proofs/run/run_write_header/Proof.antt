@@ -1,0 +1,73 @@
+use Rattle.muxer.specs.Writer.{headerCall}
+use Rattle.vectors.proofs.Lent.{lent-by}
+use borrow.Author.Needs.{needs}
+use Rattle.vectors.proofs.run.run_write_header.Statement.{statement}
+use Rattle.vectors.proofs.run.run_write_header.Tie as tie
+use Rattle.vectors.proofs.run.run_write_header.Reads as reads
+use Rattle.vectors.proofs.run.run_write_header.Lts as lts
+use Rattle.capi.proofs.amv_write_header.Reads as amv-write-header-reads
+use Rattle.vectors.proofs.print.print_1.Reads as print-1-reads
+use Rattle.vectors.proofs.print.print_9.Reads as print-9-reads
+use Rattle.vectors.proofs.print.print_bytes.Reads as print-bytes-reads
+use Rattle.vectors.proofs.print.print_call.Reads as print-call-reads
+use Rattle.vectors.proofs.print.print_end.Reads as print-end-reads
+use Rattle.vectors.proofs.run.writer_of.Reads as writer-of-reads
+
+-- src/run.rt:160:22
+writer-of-requires : tie.Need-writer-of-requires
+writer-of-requires c κs = search needs
+
+-- src/run.rt:162:9
+amv-write-header-requires : tie.Need-amv-write-header-requires
+amv-write-header-requires c κs = search needs
+
+-- src/run.rt:163:16
+slice-aggregate-print-call : tie.Need-slice-aggregate-print-call
+slice-aggregate-print-call c = search needs
+
+-- src/run.rt:163:5
+print-call-requires : tie.Need-print-call-requires
+print-call-requires c κs = search needs
+
+-- src/run.rt:164:5
+print-1-requires : tie.Need-print-1-requires
+print-1-requires c κs = search needs
+
+-- src/run.rt:165:5
+print-9-requires : tie.Need-print-9-requires
+print-9-requires c κs = search needs
+
+-- src/run.rt:166:5
+print-bytes-requires : tie.Need-print-bytes-requires
+print-bytes-requires c κs = search needs
+
+-- src/run.rt:167:5
+print-end-requires : tie.Need-print-end-requires
+print-end-requires c κs = search needs
+
+-- src/run.rt:157:1
+same-length : tie.Need-same-length
+same-length c = search needs
+
+-- src/run.rt:157:1
+returns : tie.Need-returns
+returns c =
+    let m = c .before .before .before .before .before .before .before .before .before in
+    let w = m .before .before .before .before in
+    let a = w .before .before .args in
+    lent-by (λ w. headerCall w (a .buf .now)) (a .buf .now) (m .amv-write-header .ensures) (w .writer-of .ensures)
+
+pub run-write-header-spec : {M : Type 1} → statement M
+run-write-header-spec =
+    tie.close
+    (tie.spec
+    writer-of-requires
+    amv-write-header-requires
+    slice-aggregate-print-call
+    print-call-requires
+    print-1-requires
+    print-9-requires
+    print-bytes-requires
+    print-end-requires
+    same-length
+    returns)
