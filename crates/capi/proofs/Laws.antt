@@ -1,27 +1,17 @@
 -- From what the called function ensures to what the exported one answers and leaves. Assumes nothing.
 use mathlib.Core.Path.{_≡_, refl, sym, ap, subst, _∙_}
-use Prim.Native.Nat.{ℕ, _+_, _-_}
+use Prim.Native.Nat.{ℕ, _-_}
 use mathlib.Core.Bool.{Bool, true, false, cond}
 use mathlib.Core.List.{List, [], _∷_}
 use native.Mathlib.Omega.{arith}
 use lib.IntN.{ℤ}
-use lib.Dec.{leb}
 use lib.ListN.{length, replicate}
 use mir.Syntax.{w64}
 use mir.Val.{SFits, toZ, ofZ}
 use mir.ValLaws.{toZ-ofZ}
 use Rattle.error.specs.Answer.{Answer, accepted, refused, numbered, andThen}
 use Rattle.error.specs.Refusal.{said}
-use Rattle.fields.specs.File.{withinLimit}
-use Rattle.demuxer.specs.Head.{headAt, countOf}
-use Rattle.demuxer.specs.Position.{inRange, pastFrame, pastSound}
-use Rattle.demuxer.specs.declared.position.Position.{Position}
-use Rattle.demuxer.specs.Read.{Reading, ReadAnswer, packet, End, saidNext, saidRead, advanced, cutOff, payloadAt, refuse, readHead, readFrame, readSound, readChunk, readOf}
-use Rattle.demuxer.specs.Read as read
-use Rattle.demuxer.specs.declared.head.Head.{Head}
-use Rattle.demuxer.specs.declared.head.Head.the-variants as head
-use Rattle.demuxer.specs.declared.packet.Packet.{Packet}
-use Rattle.demuxer.specs.declared.walker.NextPacket.the-variants as next
+use Rattle.demuxer.specs.Read.{packet, saidNext, saidRead, readOf}
 use Rattle.demuxer.specs.declared.walker.Walker.{Walker}
 use Rattle.demuxer.specs.declared.walker.Read.{Read}
 use Rattle.demuxer.specs.declared.walker.NextPacket.{NextPacket}
@@ -75,50 +65,6 @@ module _ (n : ℕ) (answer : Walker → Answer (List ℕ)) (next : Walker → Wa
   pub walks : {w : Walker} {number : ℕ} {out after : List ℕ} → walkerOf ws ≡ accepted w → Says n (answer w) number out
       → after ≡ walkerWords (next w) → Walks n answer next ws number out after
   walks e said o = record { says = legal-says e n answer said; walker = o ∙ legal-leaves e ws (λ w. walkerWords (next w)) }
-
--- a read that gives a packet moves the walker and leaves its marks and its trailer
-
-IsPacket : ReadAnswer → Type 0
-IsPacket (packet s) = Unit
-IsPacket End = ⊥
-IsPacket (read.refused r) = ⊥
-
-Moves : Walker → Reading → Type 0
-Moves w r = IsPacket (r .answer) → r .walker ≡ advanced w (r .walker .position)
-
-moves-whole : (b : Bool) (w : Walker) (a : ReadAnswer) (p : Position)
-    → Moves w (cond b (record { answer = a; walker = advanced w p }) (record { answer = End; walker = cutOff w }))
-unfolding Moves IsPacket
-moves-whole true w a p = λ _. refl
-moves-whole false w a p = λ z. absurd z
-
-moves-head : (file : List ℕ) (w : Walker) (h : Head) → Moves w (readHead file w h)
-unfolding Moves IsPacket readFrame readSound
-moves-head file w head.Short = λ z. absurd z
-moves-head file w head.Trailer = λ z. absurd z
-moves-head file w head.Unknown = λ z. absurd z
-moves-head file w (head.Video size) = moves-whole (leb (w .position .cursor + 8 + size) (length file)) w _ (pastFrame (w .position) size)
-moves-head file w (head.Audio size) =
-    moves-whole (leb (w .position .cursor + 8 + size) (length file)) w _
-    (pastSound (w .position) size (countOf (payloadAt file (w .position .cursor) size)))
-
-moves-asked : (file : List ℕ) (w : Walker) (a b c : Bool) (r : Reading) → Moves w r
-    → Moves w (cond a (cond b (cond c (record { answer = End; walker = w }) r) (refuse 32 0 w)) (refuse 10 0 w))
-unfolding Moves IsPacket
-moves-asked file w false b c r h = λ z. absurd z
-moves-asked file w true false c r h = λ z. absurd z
-moves-asked file w true true true r h = λ z. absurd z
-moves-asked file w true true false r h = h
-
-moves-read : (file : List ℕ) (w : Walker) → Moves w (readOf file w)
-unfolding readOf readChunk
-moves-read file w = moves-asked file w (withinLimit file) (inRange (w .position)) (w .end) _ (moves-head file w (headAt file (w .position .cursor)))
-
-pub packet-moves : (file : List ℕ) (w : Walker) {r : Read} {p : Packet} → saidRead file r ≡ readOf file w → r .answer ≡ next.Packet p
-    → r .walker ≡ advanced w (r .walker .position)
-unfolding Moves IsPacket
-packet-moves file w e t =
-    subst (λ (q : Reading). Moves w q) (sym e) (moves-read file w) (subst (λ (a : NextPacket). IsPacket (saidNext file a)) (sym t) tt)
 
 -- the words of a read's answer that is known
 pub read-gave : (file : List ℕ) (w : Walker) {r : Read} {v : NextPacket} → saidRead file r ≡ readOf file w → r .answer ≡ v

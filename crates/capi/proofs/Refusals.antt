@@ -1,6 +1,6 @@
 -- A refused call leaves every word and byte as it was. Assumes nothing.
 use mathlib.Core.Path.{_≡_, refl, ap, _∙_}
-use Prim.Native.Nat.{ℕ, _+_, _*_}
+use Prim.Native.Nat.{ℕ, _*_}
 use mathlib.Core.List.{List}
 use mathlib.Core.Option.{Option, none, some}
 use native.Mathlib.Omega.{arith}
@@ -9,19 +9,16 @@ use lib.IntN.{ℤ}
 use lib.ListN.{length}
 use Rattle.error.specs.Answer.{Answer, accepted, refused, ask, andThen}
 use Rattle.error.specs.declared.Refusal.{Refusal}
-use Rattle.fields.specs.File.{withinLimit}
-use Rattle.demuxer.specs.Position.{inRange}
-use Rattle.demuxer.specs.Head.{headAt}
-use Rattle.demuxer.specs.Read.{Reading, readFrame, readSound, readHead, readChunk, readOf}
-use Rattle.demuxer.specs.declared.head.Head.{Head}
-use Rattle.demuxer.specs.declared.head.Head.the-variants as head
+use Rattle.demuxer.specs.Read.{ReadAnswer, End}
+use Rattle.demuxer.specs.Read as read
+use Rattle.demuxer.proofs.Outcomes.{refused-stays}
 use Rattle.demuxer.specs.declared.position.Position.{Position}
 use Rattle.demuxer.specs.declared.walker.Walker.{Walker}
 use Rattle.chunk_index.specs.Entry.{entryLen, entriesOf}
 use Rattle.chunk_index.specs.Index.{indexOf, builtFrom, buildOf}
 use Rattle.chunk_index.specs.declared.entry.ChunkIndexEntry.{ChunkIndexEntry}
 use Rattle.seek.specs.Seek.{seekQuestions, find, landed, soughtFrom, seekOf}
-use Rattle.muxer.specs.Writer.{outcome, headerQuestions, headerCall, packetQuestions, packetCall, trailerQuestions, trailerCall}
+use Rattle.muxer.proofs.Writes.{header-refused, packet-refused, trailer-refused}
 use Rattle.muxer.specs.declared.Writer.{Writer}
 use Rattle.recording.specs.Written.{WriteCall, header, packet, trailer, writeStep}
 use Rattle.words.specs.Out.{given, checked, unlessRefused, readWords}
@@ -30,7 +27,6 @@ use Rattle.words.proofs.States.{words-stand}
 use Rattle.capi.specs.Calls.{single, nextAnswer, nextWalker, seekAnswer, seekWalker}
 use Rattle.capi.specs.Lists.{step}
 use Rattle.capi.specs.Refusals.{RefusalsKeep}
-use Rattle.capi.proofs.Laws.{either}
 
 -- no accepted answer is a refusal
 never : {A B : Type 0} {x : A} {r : Refusal} → _≡_ {A = Answer A} (accepted x) (refused r) → B
@@ -46,33 +42,16 @@ index-keeps file table r = go (andThen (indexOf file) (λ es. ask (leb (entryLen
     go (accepted es) h = never h
     go (refused q) h = refl
 
-module _ (file : List ℕ) (w : Walker) (r : Refusal) where
-  abbrev Keeps : Reading → Type 0
-  Keeps q = readWords w (q .answer) ≡ refused r → q .walker ≡ w
+-- a read
+asRead : Answer (List ℕ) → ReadAnswer
+asRead (accepted words) = End
+asRead (refused r) = read.refused r
 
-  frame-keeps : (size : ℕ) → Keeps (readFrame file w size)
-  unfolding readFrame
-  frame-keeps size = either Keeps (leb (w .position .cursor + 8 + size) (length file)) _ _ (λ h. never h) (λ h. never h)
-
-  sound-keeps : (size : ℕ) → Keeps (readSound file w size)
-  unfolding readSound
-  sound-keeps size = either Keeps (leb (w .position .cursor + 8 + size) (length file)) _ _ (λ h. never h) (λ h. never h)
-
-  head-keeps : (h : Head) → Keeps (readHead file w h)
-  head-keeps head.Short h = never h
-  head-keeps head.Trailer h = never h
-  head-keeps head.Unknown h = refl
-  head-keeps (head.Video size) h = frame-keeps size h
-  head-keeps (head.Audio size) h = sound-keeps size h
-
-  read-keeps : Keeps (readOf file w)
-  unfolding readOf readChunk
-  read-keeps =
-      either Keeps (withinLimit file) _ _
-      (either Keeps (inRange (w .position)) _ _
-      (either Keeps (w .end) _ _ (λ h. never h) (head-keeps (headAt file (w .position .cursor))))
-      (λ h. refl))
-      (λ h. refl)
+read-refused : (w : Walker) (a : ReadAnswer) {r : Refusal} → readWords w a ≡ refused r → a ≡ read.refused r
+unfolding asRead
+read-refused w (read.packet p) h = never h
+read-refused w End h = never h
+read-refused w (read.refused q) h = ap asRead h
 
 seek-keeps : (table : List ℕ) (stream : ℕ) (request : ℤ) (w : Walker) (r : Refusal) → seekAnswer table stream request w ≡ refused r
     → seekWalker table stream request w ≡ w
@@ -85,17 +64,22 @@ seek-keeps table stream request w r = go (seekQuestions table w stream) (find st
     go (accepted u) (some p) h = never h
     go (refused q) f h = refl
 
-module _ (w : Writer) (buf : List ℕ) (r : Refusal) where
-  outcome-keeps : (q : Answer Unit) (next : Writer) (after : List ℕ) → checked (outcome q w buf next after .answer) ≡ refused r
-      → (outcome q w buf next after .writer ≡ w) × (outcome q w buf next after .buffer ≡ buf)
-  outcome-keeps (accepted u) next after h = never h
-  outcome-keeps (refused q) next after h = (refl, refl)
+-- a writing call
+asCheck : Answer (List ℕ) → Answer Unit
+asCheck (accepted words) = accepted tt
+asCheck (refused r) = refused r
 
-  write-keeps : (c : WriteCall) → checked (writeStep w buf c .answer) ≡ refused r → (writeStep w buf c .writer ≡ w) × (writeStep w buf c .buffer ≡ buf)
-  unfolding writeStep headerCall packetCall trailerCall
-  write-keeps header h = outcome-keeps (headerQuestions w (length buf)) _ _ h
-  write-keeps (packet payload stream) h = outcome-keeps (packetQuestions w (length payload) stream (length buf)) _ _ h
-  write-keeps trailer h = outcome-keeps (trailerQuestions w (length buf)) _ _ h
+check-refused : (a : Answer Unit) {r : Refusal} → checked a ≡ refused r → a ≡ refused r
+unfolding asCheck
+check-refused (accepted u) h = never h
+check-refused (refused q) h = ap asCheck h
+
+write-keeps : (w : Writer) (buf : List ℕ) (r : Refusal) (c : WriteCall) → checked (writeStep w buf c .answer) ≡ refused r
+    → (writeStep w buf c .writer ≡ w) × (writeStep w buf c .buffer ≡ buf)
+unfolding writeStep
+write-keeps w buf r header h = header-refused w buf (check-refused _ h)
+write-keeps w buf r (packet payload stream) h = packet-refused w payload stream buf (check-refused _ h)
+write-keeps w buf r trailer h = trailer-refused w buf (check-refused _ h)
 
 -- ---- through words
 
@@ -117,7 +101,7 @@ pub refusals-keep : RefusalsKeep
 refusals-keep =
     record {
       index = index-keeps;
-      next = λ file ws r l h. walker-keeps ws (nextAnswer file) (nextWalker file) r l (λ w. read-keeps file w r) (walkerOf ws) refl h;
+      next = λ file ws r l h. walker-keeps ws (nextAnswer file) (nextWalker file) r l (λ w h. refused-stays file w (read-refused w _ h)) (walkerOf ws) refl h;
       seek =
           λ table ws stream request r l h.
           walker-keeps ws (seekAnswer table stream request) (seekWalker table stream request) r l (λ w. seek-keeps table stream request w r)

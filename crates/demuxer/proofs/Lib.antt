@@ -3,3 +3,4 @@ pub mod Ranges
 pub mod Bodies
 pub mod Steps
 pub mod Suffixes
+pub mod Outcomes

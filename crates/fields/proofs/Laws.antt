@@ -8,7 +8,7 @@ use native.Mathlib.Numerals.{add-one}
 use native.Mathlib.Omega.{arith}
 use lib.Arith.{mod-mul}
 use lib.ListN.{length, getD, set, length-set, take, drop, length-append, length-take, length-drop, take-append-drop, List·getD-append, List·getD-eq-default}
-use lib.Seq.{paste, paste-suc, take-length, length-take-le, drop-cons, set-split, getD-append-add, getD-drop, getD-take, drop-append-add, drop-drop, take-at, take-add}
+use lib.Seq.{paste, paste-suc, take-length, length-take-le, drop-cons, set-split, getD-append-add, getD-drop, getD-take, drop-append-add, drop-drop, drop-at, take-at, take-add, take-take, take-append-add}
 use Rattle.fields.specs.Le.{le, leBytes, put, putLe, Bytes}
 
 -- ---- reading
@@ -150,11 +150,6 @@ pub copy-done : (xs : List ℕ) (off : ℕ) (src : List ℕ) (i : ℕ) → i ≡
 unfolding put
 copy-done xs off src i e = rw (e, take-length, append-assoc)
 
--- what was written at the front is what stands there
-pub take-put : (xs ys : List ℕ) {zs : List ℕ} → zs ≡ put xs 0 ys → take (length ys) zs ≡ ys
-unfolding put
-take-put xs ys e = rw e (take-at ys _ _ refl)
-
 -- a turn of the loop that copies a part at a time; a part from i up to j is `take (j - i) (drop i src)`
 pub part-copied : (xs : List ℕ) (off : ℕ) (src : List ℕ) (i j : ℕ) {ys : List ℕ} → off + length src ≤ length xs → i ≤ j → j ≤ length src
     → ys ≡ put xs off (take i src) → put ys (off + i) (take (j - i) (drop i src)) ≡ put xs off (take j src)
@@ -232,6 +227,37 @@ getD-put-after xs off ys i h l =
     ∙ getD-drop (off + length ys) xs (i - (off + length ys)) 0
     ∙ ap (λ (k : ℕ). getD xs k 0) m)
 
+-- what stands at the front after a write that ends there
+pub take-put : (xs : List ℕ) (off : ℕ) (ys : List ℕ) (n : ℕ) → off ≤ length xs → n ≡ off + length ys → take n (put xs off ys) ≡ take off xs ++ ys
+unfolding put
+take-put xs off ys n h e =
+    let l : length (take off xs ++ ys) ≡ n = simp (length-append, length-take) (omega arith) in
+    rw (← append-assoc) (take-at (take off xs ++ ys) (drop (off + length ys) xs) n l)
+
+-- at offset 0 that is what was written
+pub front-put : (xs ys : List ℕ) {zs : List ℕ} → zs ≡ put xs 0 ys → take (length ys) zs ≡ ys
+front-put xs ys e = rw e (take-put xs 0 ys (length ys) (omega arith) (omega arith))
+
+drop-take : (k m : ℕ) (xs : List ℕ) → k ≤ length xs → drop k (take (k + m) xs) ≡ take m (drop k xs)
+drop-take k m xs h = rw (take-add k m xs) (drop-at (take k xs) (take m (drop k xs)) k (length-take-le k xs h))
+
+-- a write within the first n bytes
+pub take-put-inside : (xs : List ℕ) (off : ℕ) (ys : List ℕ) (n : ℕ) → off + length ys ≤ n → n ≤ length xs
+    → take n (put xs off ys) ≡ put (take n xs) off ys
+unfolding put
+take-put-inside xs off ys n h l =
+    let k = off + length ys in
+    let m = n - k in
+    let p = take off xs ++ ys in
+    let q : n ≡ k + m = omega arith in
+    let lp : length p ≡ k = simp (length-append, length-take) (omega arith) in
+    let left : take n (p ++ drop k xs) ≡ p ++ take m (drop k xs) =
+    ap (λ (i : ℕ). take i (p ++ drop k xs)) (q ∙ ap (λ (i : ℕ). i + m) (sym lp)) ∙ take-append-add p (drop k xs) m in
+    let right : drop k (take n xs) ≡ take m (drop k xs) =
+    ap (λ (i : ℕ). drop k (take i xs)) q ∙ drop-take k m xs (omega arith) in
+    let front : take off (take n xs) ≡ take off xs = take-take off n xs (omega arith) in
+    rw (front, right, ← append-assoc (take off xs) ys (drop k xs), ← append-assoc (take off xs) ys (take m (drop k xs))) left
+
 -- what was written is read back
 pub le-put : (w : ℕ) (xs : List ℕ) (off v : ℕ) → off ≤ length xs → v < 256 ^ w → le w (putLe w xs off v) off ≡ v
 unfolding put
@@ -259,6 +285,19 @@ bytes-append xs ys a b i =
           rw n (omega (arith, b (i - length xs), getD-append-add xs ys (i - length xs) 0))
       | no h ↦ omega (arith, a i, List·getD-append xs ys 0 i (lt-of-not-le h))
     ]
+
+-- and so are those of a part
+pub bytes-left : (xs ys : List ℕ) → Bytes (xs ++ ys) → Bytes xs
+unfolding Bytes
+bytes-left xs ys b i =
+    elim (decLe (length xs) i) [
+      | yes h ↦ omega (arith, List·getD-eq-default xs 0 {n = i} h)
+      | no h ↦ omega (arith, b i, List·getD-append xs ys 0 i (lt-of-not-le h))
+    ]
+
+pub bytes-right : (xs ys : List ℕ) → Bytes (xs ++ ys) → Bytes ys
+unfolding Bytes
+bytes-right xs ys b i = omega (arith, b (length xs + i), getD-append-add xs ys i 0)
 
 pub bytes-drop : (n : ℕ) (xs : List ℕ) → Bytes xs → Bytes (drop n xs)
 unfolding Bytes

@@ -1,18 +1,17 @@
 -- What the three calls do to the file, the first bytes-written bytes of the buffer. Assumes nothing.
-use mathlib.Core.Path.{_≡_, refl, sym, ap, _∙_}
+use mathlib.Core.Path.{_≡_, refl, ap, _∙_}
 use mathlib.Core.Bool.{Bool, true, false, cond, _&&_}
-use mathlib.Core.List.{List, _++_, append-assoc}
-use Prim.Native.Nat.{ℕ, _+_, _-_, _≤_}
+use mathlib.Core.List.{List, _++_}
+use Prim.Native.Nat.{ℕ, _+_, _≤_}
 use native.Mathlib.Omega.{arith}
 use lib.Dec.{ltb}
-use lib.ListN.{length, take, drop, length-append, length-take}
-use lib.Seq.{take-at, drop-at, take-add, take-take, take-append-add, length-take-le}
+use lib.ListN.{length, take, length-append}
 use Rattle.chunk.specs.Chunk.{streamTag, trailerBytes}
 use Rattle.duration.specs.Duration.{packedOf, runLength}
 use Rattle.error.specs.Answer.{Answer, accepted, refused}
 use Rattle.error.specs.declared.Refusal.{Refusal}
 use Rattle.fields.specs.Le.{leBytes, put}
-use Rattle.fields.proofs.Laws.{length-put, length-leBytes}
+use Rattle.fields.proofs.Laws.{length-put, take-put, take-put-inside, length-leBytes}
 use Rattle.prelude.specs.Built.{preludeBytes}
 use Rattle.prelude.proofs.BuiltLaws.{length-prelude}
 use Rattle.muxer.specs.Writer.{outcome, packetBytes, patchRunLength, headerQuestions, packetQuestions, trailerQuestions, afterHeader, afterPacket, afterTrailer, headerCall, packetCall, trailerCall}
@@ -47,34 +46,6 @@ outcome-length : (q : Answer Unit) (w : Writer) (buf : List ℕ) (next : Writer)
     → (q ≡ accepted tt → length after ≡ length buf) → length (outcome q w buf next after .buffer) ≡ length buf
 outcome-length (accepted u) w buf next after h = h refl
 outcome-length (refused r) w buf next after h = refl
-
--- ---- bytes put, seen from the front
-
-take-put : (xs : List ℕ) (off : ℕ) (ys : List ℕ) (n : ℕ) → off ≤ length xs → n ≡ off + length ys → take n (put xs off ys) ≡ take off xs ++ ys
-unfolding put
-take-put xs off ys n h e =
-    let l : length (take off xs ++ ys) ≡ n = simp (length-append, length-take) (omega arith) in
-    rw (← append-assoc) (take-at (take off xs ++ ys) (drop (off + length ys) xs) n l)
-
-drop-take : (k m : ℕ) (xs : List ℕ) → k ≤ length xs → drop k (take (k + m) xs) ≡ take m (drop k xs)
-drop-take k m xs h = rw (take-add k m xs) (drop-at (take k xs) (take m (drop k xs)) k (length-take-le k xs h))
-
--- a write within the first n bytes
-take-put-inside : (xs : List ℕ) (off : ℕ) (ys : List ℕ) (n : ℕ) → off + length ys ≤ n → n ≤ length xs
-    → take n (put xs off ys) ≡ put (take n xs) off ys
-unfolding put
-take-put-inside xs off ys n h l =
-    let k = off + length ys in
-    let m = n - k in
-    let p = take off xs ++ ys in
-    let q : n ≡ k + m = omega arith in
-    let lp : length p ≡ k = simp (length-append, length-take) (omega arith) in
-    let left : take n (p ++ drop k xs) ≡ p ++ take m (drop k xs) =
-    ap (λ (i : ℕ). take i (p ++ drop k xs)) (q ∙ ap (λ (i : ℕ). i + m) (sym lp)) ∙ take-append-add p (drop k xs) m in
-    let right : drop k (take n xs) ≡ take m (drop k xs) =
-    ap (λ (i : ℕ). drop k (take i xs)) q ∙ drop-take k m xs (omega arith) in
-    let front : take off (take n xs) ≡ take off xs = take-take off n xs (omega arith) in
-    rw (front, right, ← append-assoc (take off xs) ys (drop k xs), ← append-assoc (take off xs) ys (take m (drop k xs))) left
 
 take-cond : (b : Bool) (n : ℕ) (xs ys : List ℕ) → take n (cond b xs ys) ≡ cond b (take n xs) (take n ys)
 take-cond true n xs ys = refl

@@ -14,6 +14,7 @@ use lib.ListN.{length, take, drop, getElem?, length-append, drop-of-length-le}
 use Rattle.chunk.specs.Chunk.{trailerBytes}
 use Rattle.error.specs.Answer.{Answer, accepted, refused, numbered}
 use Rattle.fields.specs.Le.{leBytes, Bytes}
+use Rattle.fields.proofs.Laws.{bytes-left, bytes-right}
 use Rattle.demuxer.specs.Packet.{Shown}
 use Rattle.demuxer.specs.Position.{start, InRange}
 use Rattle.demuxer.specs.Read.{ReadAnswer, packet, End, fresh, atTrailer, advanced, readOf}
@@ -27,7 +28,7 @@ use Rattle.seek.specs.Seek.{seekQuestions, goodEntries, find, pastLast, landed,
 use Rattle.recording.specs.Grammar.{Finished}
 use Rattle.recording.specs.Drain.{drain}
 use Rattle.recording.specs.Machine.{Call, read, seek, MachineStep, onRead, onSeek, first, refuses, machineStep, machineSays, machineAfter, readAnswer, seekAnswer, Called, call, answers, after, Agrees, AllAgree, Left, none-left, one-more, AtChunk, Agreement, OwnIndex, ReadsAndSeeks, HasIndex}
-use Rattle.recording.proofs.Positions.{passed, shownAt, positionAt, length-drain, Here, here, chunks-split, counted, bounded, bytes-left, bytes-right}
+use Rattle.recording.proofs.Positions.{passed, shownAt, positionAt, length-drain, Here, here, chunks-split, counted, bounded}
 use Rattle.recording.proofs.Tables.{marks, index-marks, length-table, table-back, marks-fit}
 use Rattle.recording.proofs.Seeks.{Finds, hit, miss, finds, all-good, last-range}
 use Rattle.recording.proofs.Readings.{read-chunk, read-trailer, read-ended}

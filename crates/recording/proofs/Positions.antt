@@ -8,12 +8,9 @@ use native.Mathlib.Nat.{le-of-suc-le-suc, not-suc-le-zero}
 use native.Mathlib.Omega.{arith}
 use borrow.Author.Tests.{leb-true}
 use lib.Dec.{leb}
-use lib.ListN.{length, take, drop, getElem?, length-append, List·getD-append, List·getD-eq-default}
-use lib.Seq.{getD-append-add}
-use native.Mathlib.Decide.{decLe}
-use native.Mathlib.Nat.{lt-of-not-le}
+use lib.ListN.{length, take, drop, getElem?, length-append}
 use Rattle.fields.specs.Le.{le, leBytes, Bytes}
-use Rattle.fields.proofs.Laws.{le-lt}
+use Rattle.fields.proofs.Laws.{le-lt, bytes-left, bytes-right}
 use Rattle.demuxer.specs.Head.{countOf}
 use Rattle.demuxer.specs.Packet.{Shown, durationOf, ticks}
 use Rattle.demuxer.specs.Position.{pastFrame, pastSound}
@@ -109,18 +106,6 @@ counted p (suc k) (chunkOf sound payload ∷ cs) =
     omega (arith, counted (passed p sound payload) k cs, length-append (chunkBytes (chunkOf sound payload)) (chunksBytes (take k cs)), length-chunk sound payload)
 
 -- ---- bounds
-
-pub bytes-left : (xs ys : List ℕ) → Bytes (xs ++ ys) → Bytes xs
-unfolding Bytes
-bytes-left xs ys b i =
-    elim (decLe (length xs) i) [
-      | yes h ↦ omega (arith, List·getD-eq-default xs 0 {n = i} h)
-      | no h ↦ omega (arith, b i, List·getD-append xs ys 0 i (lt-of-not-le h))
-    ]
-
-pub bytes-right : (xs ys : List ℕ) → Bytes (xs ++ ys) → Bytes ys
-unfolding Bytes
-bytes-right xs ys b i = omega (arith, b (length xs + i), getD-append-add xs ys i 0)
 
 pub bytes-payload : (kind : Kind) (payload ys : List ℕ) → Bytes (chunkBytes (chunkOf kind payload) ++ ys) → Bytes payload
 unfolding chunkBytes

@@ -13,6 +13,7 @@ use lib.ListN.{length, getElem?, length-append}
 use lib.Signed.{leZ}
 use Rattle.error.specs.Answer.{accepted}
 use Rattle.fields.specs.Le.{Bytes}
+use Rattle.fields.proofs.Laws.{bytes-right}
 use Rattle.demuxer.specs.Packet.{Shown}
 use Rattle.demuxer.specs.Position.{countLimit, InRange}
 use Rattle.demuxer.specs.declared.position.Position.{Position}
@@ -22,7 +23,7 @@ use Rattle.chunk_index.specs.Entry.{entry}
 use Rattle.seek.specs.Seek.{stampOf, goodEntry, goodEntries, reaches, find, beyond, pastLast}
 use Rattle.recording.specs.Drain.{drainFrom}
 use Rattle.recording.specs.Machine.{first}
-use Rattle.recording.proofs.Positions.{passed, shownAt, positionAt, drainAt, drain-cons, stepped, length-chunk, bytes-right, bytes-payload}
+use Rattle.recording.proofs.Positions.{passed, shownAt, positionAt, drainAt, drain-cons, stepped, length-chunk, bytes-payload}
 use Rattle.recording.proofs.Tables.{marks}
 
 -- the machine's test of a packet

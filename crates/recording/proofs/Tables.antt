@@ -13,6 +13,7 @@ use Rattle.chunk.specs.Chunk.{trailerBytes}
 use Rattle.error.specs.Answer.{Answer, accepted, refused, ask, andThen}
 use Rattle.fields.specs.File.{fileLimit}
 use Rattle.fields.specs.Le.{Bytes, put}
+use Rattle.fields.proofs.Laws.{bytes-right}
 use Rattle.demuxer.specs.Position.{start}
 use Rattle.demuxer.specs.declared.position.Position.{Position}
 use Rattle.chunk_index.specs.Walk.{Kind, frame, sound, walk, past}
@@ -24,7 +25,7 @@ use Rattle.chunk_index.proofs.Chunked.{tag-held, chunks-walked}
 use Rattle.chunk_index.proofs.Entries.{entry-back, length-entryBytes}
 use Rattle.recording.specs.Grammar.{Finished}
 use Rattle.recording.specs.Machine.{OwnIndex}
-use Rattle.recording.proofs.Positions.{passed, Bounded, stepped, length-chunk, bytes-right, bytes-payload}
+use Rattle.recording.proofs.Positions.{passed, Bounded, stepped, length-chunk, bytes-payload}
 
 -- the records of chunks from a position on
 unfoldable pub marks : Position → List Chunk → List ChunkIndexEntry

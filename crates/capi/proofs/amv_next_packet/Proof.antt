@@ -3,7 +3,8 @@ use Rattle.words.specs.State.{saidWalker, walkerWords}
 use Rattle.words.proofs.Laws.{says-accepted, says-error, packet-placed}
 use Rattle.words.proofs.States.{position-kept}
 use Rattle.capi.specs.Calls.{nextWalker}
-use Rattle.capi.proofs.Laws.{known, walks-illegal, walks, read-gave, packet-moves}
+use Rattle.capi.proofs.Laws.{known, walks-illegal, walks, read-gave}
+use Rattle.demuxer.proofs.Outcomes.{packet-moves}
 use borrow.Author.Needs.{needs}
 use Rattle.capi.proofs.amv_next_packet.Statement.{statement}
 use Rattle.capi.proofs.amv_next_packet.Tie as tie

@@ -3,7 +3,7 @@ use native.Mathlib.Omega.{arith}
 use lib.ListN.{length}
 use lib.Seq.{length-take-le}
 use Rattle.fields.specs.Le.{put}
-use Rattle.fields.proofs.Laws.{take-put}
+use Rattle.fields.proofs.Laws.{front-put}
 use borrow.Author.Needs.{needs}
 use Rattle.fields.proofs.copy_block.Statement.{statement}
 use Rattle.fields.proofs.copy_block.Tie as tie
@@ -30,7 +30,7 @@ slice-aggregate-copy-bytes-2 c = sym (length-take-le _ _ (omega arith))
 -- src/lib.rt:115:5
 copy-bytes-requires-2 : tie.Need-copy-bytes-requires-2
 copy-bytes-requires-2 c κs =
-    let front = take-put _ _ (c .before .before .before .copy-bytes .ensures) in
+    let front = front-put _ _ (c .before .before .before .copy-bytes .ensures) in
     omega (arith, ap length front)
 
 -- src/lib.rt:108:1
@@ -41,7 +41,7 @@ same-length c = search needs
 returns : tie.Need-returns
 returns c =
     let a = c .before .before .before .before .before .before .before .before .before .before .args in
-    let front = take-put _ _ (c .before .before .before .before .before .before .copy-bytes .ensures) in
+    let front = front-put _ _ (c .before .before .before .before .before .before .copy-bytes .ensures) in
     c .before .before .copy-bytes2 .ensures ∙ ap (put (a .buf .now) (a .off)) front
 
 pub copy-block-spec : {M : Type 1} → statement M
