@@ -8,6 +8,7 @@ use borrow.Author.Tests.{eq-eqb, ne-eqb, le-leb}
 use lib.Dec.{eqb}
 use lib.IntN.{ℤ}
 use lib.ListN.{length, set, length-take, length-drop}
+use Rattle.error.specs.Answer.{Answer, accepted, refused}
 use Rattle.fields.specs.Le.{put}
 use Rattle.fields.proofs.Laws.{sets, stores-put, getD-put-in, getD-put-before}
 use Rattle.demuxer.specs.Packet.{ticks, payloadOf, shownOf}
@@ -21,10 +22,8 @@ use Rattle.demuxer.specs.declared.packet.PacketDuration.{PacketDuration}
 use Rattle.demuxer.specs.declared.packet.PacketDuration.the-variants.{Ticks, None}
 use Rattle.seek.specs.Seek.{saidSeek, saidSought, seekOf}
 use Rattle.seek.specs.declared.Sought.{Sought}
-use Rattle.seek.specs.declared.SeekResult.{SeekResult}
-use Rattle.seek.specs.declared.SeekResult.the-variants.{Ok, Err}
 use Rattle.recording.specs.Machine.{readAnswer, seekAnswer, call}
-use Rattle.replay.specs.Replay.{callOf, rowWords, rowAnswer, rowAt, answersIn, durationRow, nextRow, seekRow, ticksRow, readRow, soughtRow, rowOf, equal}
+use Rattle.replay.specs.Replay.{callOf, rowWords, rowAnswer, rowAt, answersIn, packetRow, nextRow, readRow, soughtRow, rowOf, equal}
 use Rattle.replay.specs.declared.Row.{Row}
 
 -- ---- the row of an answer, and the answer of a row
@@ -34,22 +33,15 @@ unfolding payloadOf
 payload-length file p h = rw (le-leb _ _ h) (simp (length-take, length-drop) (omega arith))
 
 -- of a packet that is placed where it was read, the row is the one of what is shown
-shown-row : (file : List ℕ) (start : ℕ) (p : Packet) → p .start ≡ start → p .start + p .len ≤ length file → (d : PacketDuration)
-    → durationRow p d ≡ ticksRow start (shownOf file p) (ticks d)
-unfolding shownOf
-shown-row file start p e h (Ticks n) =
-    λ i. record { said = 1; first = p .stream; second = e i; third = sym (payload-length file p h) i; fourth = p .stamp; fifth = n }
-shown-row file start p e h None =
-    λ i. record { said = 2; first = p .stream; second = e i; third = sym (payload-length file p h) i; fourth = p .stamp; fifth = 0 }
-
 next-row : (file : List ℕ) (w : Walker) (a : NextPacket) → Placed file w a → nextRow a ≡ readRow w (saidNext file a)
 unfolding shownOf
-next-row file w (next.Packet p) h = shown-row file (w .position .cursor + 8) p (h .0) (h .1) (p .duration)
+next-row file w (next.Packet p) h = λ i. packetRow (p .stream) (h .0 i) (sym (payload-length file p (h .1)) i) (p .stamp) (ticks (p .duration))
 next-row file w next.End h = refl
 next-row file w (next.Err e) h = refl
 
 packet-said : (file : List ℕ) (p : Packet) (d : PacketDuration)
-    → rowAnswer file (durationRow p d) ≡ readAnswer (packet (shownOf file (record { stream = p .stream; start = p .start; len = p .len; stamp = p .stamp; duration = d })))
+    → rowAnswer file (packetRow (p .stream) (p .start) (p .len) (p .stamp) (ticks d))
+    ≡ readAnswer (packet (shownOf file (record { stream = p .stream; start = p .start; len = p .len; stamp = p .stamp; duration = d })))
 unfolding rowAnswer
 packet-said file p (Ticks n) = refl
 packet-said file p None = refl
@@ -60,14 +52,10 @@ read-said file (next.Packet p) = packet-said file p (p .duration)
 read-said file next.End = refl
 read-said file (next.Err e) = refl
 
-seek-row : (a : SeekResult) → seekRow a ≡ soughtRow (saidSeek a)
-seek-row (Ok stamp) = refl
-seek-row (Err e) = refl
-
-seek-said : (file : List ℕ) (a : SeekResult) → rowAnswer file (seekRow a) ≡ seekAnswer (saidSeek a)
+seek-said : (file : List ℕ) (a : Answer ℕ) → rowAnswer file (soughtRow a) ≡ seekAnswer a
 unfolding rowAnswer
-seek-said file (Ok stamp) = refl
-seek-said file (Err e) = refl
+seek-said file (accepted stamp) = refl
+seek-said file (refused r) = refl
 
 -- ---- one call
 
@@ -84,15 +72,15 @@ read-called file table w kind stream request r row k e placed is =
     )
 
 pub seek-called : (file table : List ℕ) (w : Walker) (kind stream : ℕ) (request : ℤ) (r : Sought) (row : Row) → (kind ≡ 0 → ⊥)
-    → saidSought r ≡ seekOf table w stream request → row ≡ seekRow (r .result)
+    → saidSought r ≡ seekOf table w stream request → row ≡ soughtRow (saidSeek (r .result))
     → (rowAnswer file row ≡ call file table w (callOf kind stream request) .answer)
     × ((row ≡ rowOf w (call file table w (callOf kind stream request) .answer))
     × (r .walker ≡ call file table w (callOf kind stream request) .walker))
 unfolding call
 seek-called file table w kind stream request r row k e is =
     rw (ne-eqb _ _ k) (
-      ap (rowAnswer file) is ∙ seek-said file (r .result) ∙ ap (λ q. seekAnswer (q .answer)) e,
-      (is ∙ seek-row (r .result) ∙ ap (λ q. soughtRow (q .answer)) e, ap (λ q. q .walker) e),
+      ap (rowAnswer file) is ∙ seek-said file (saidSeek (r .result)) ∙ ap (λ q. seekAnswer (q .answer)) e,
+      (is ∙ ap (λ q. soughtRow (q .answer)) e, ap (λ q. q .walker) e),
     )
 
 -- ---- rows in a slice

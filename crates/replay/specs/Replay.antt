@@ -10,13 +10,10 @@ use mathlib.Core.Option.{Option, none, some}
 use Rattle.error.specs.Answer.{Answer, accepted, refused, numbered}
 use Rattle.error.specs.Refusal.{refusalOf}
 use Rattle.fields.specs.Le.{Bytes, put}
-use Rattle.demuxer.specs.Packet.{Shown, shownOf}
+use Rattle.demuxer.specs.Packet.{shownOf, ticks}
 use Rattle.demuxer.specs.Read.{ReadAnswer, packet, End, fresh}
 use Rattle.demuxer.specs.declared.walker.NextPacket.{NextPacket}
 use Rattle.demuxer.specs.declared.walker.NextPacket.the-variants as next
-use Rattle.demuxer.specs.declared.packet.Packet.{Packet}
-use Rattle.seek.specs.declared.SeekResult.{SeekResult}
-use Rattle.seek.specs.declared.SeekResult.the-variants.{Ok, Err}
 use Rattle.demuxer.specs.Read as read-answer
 use Rattle.demuxer.specs.declared.walker.Walker.{Walker}
 use Rattle.demuxer.specs.declared.packet.PacketDuration.{PacketDuration}
@@ -49,40 +46,30 @@ rowWords r = r .said ∷ r .first ∷ r .second ∷ r .third ∷ r .fourth ∷ r
 abbrev pub refusalRow : ℕ → ℕ → ℕ → Row
 refusalRow said number place = record { said = said; first = number; second = place; third = 0; fourth = 0; fifth = 0 }
 
--- what the code's answers are as rows; a packet's by its duration
-abbrev pub durationRow : Packet → PacketDuration → Row
-durationRow p (Ticks n) = record { said = 1; first = p .stream; second = p .start; third = p .len; fourth = p .stamp; fifth = n }
-durationRow p None = record { said = 2; first = p .stream; second = p .start; third = p .len; fourth = p .stamp; fifth = 0 }
-
-abbrev pub nextRow : NextPacket → Row
-nextRow (next.Packet p) = durationRow p (p .duration)
-nextRow next.End = refusalRow 0 0 0
-nextRow (next.Err e) = refusalRow 3 (refusalOf e .number) (refusalOf e .place)
-
-abbrev pub stampRow : ℕ → Row
-stampRow stamp = record { said = 4; first = stamp; second = 0; third = 0; fourth = 0; fifth = 0 }
-
-abbrev pub seekRow : SeekResult → Row
-seekRow (Ok stamp) = stampRow stamp
-seekRow (Err e) = refusalRow 5 (refusalOf e .number) (refusalOf e .place)
+-- a packet's: stream, start and length of its payload, stamp and duration, if it has one
+abbrev pub packetRow : ℕ → ℕ → ℕ → ℕ → Option ℕ → Row
+packetRow stream start len stamp (some n) = record { said = 1; first = stream; second = start; third = len; fourth = stamp; fifth = n }
+packetRow stream start len stamp none = record { said = 2; first = stream; second = start; third = len; fourth = stamp; fifth = 0 }
 
 -- the row of an answer to a call that a walker got: a packet's payload starts past the 8 bytes at that walker's cursor
-abbrev pub ticksRow : ℕ → Shown → Option ℕ → Row
-ticksRow start p (some n) = record { said = 1; first = p .stream; second = start; third = length (p .payload); fourth = p .stamp; fifth = n }
-ticksRow start p none = record { said = 2; first = p .stream; second = start; third = length (p .payload); fourth = p .stamp; fifth = 0 }
-
 abbrev pub readRow : Walker → ReadAnswer → Row
-readRow w (packet p) = ticksRow (w .position .cursor + 8) p (p .duration)
+readRow w (packet p) = packetRow (p .stream) (w .position .cursor + 8) (length (p .payload)) (p .stamp) (p .duration)
 readRow w End = refusalRow 0 0 0
 readRow w (read-answer.refused r) = refusalRow 3 (r .number) (r .place)
 
 abbrev pub soughtRow : Answer ℕ → Row
-soughtRow (accepted stamp) = stampRow stamp
+soughtRow (accepted stamp) = record { said = 4; first = stamp; second = 0; third = 0; fourth = 0; fifth = 0 }
 soughtRow (refused r) = refusalRow 5 (r .number) (r .place)
 
 abbrev pub rowOf : Walker → CallAnswer → Row
 rowOf w (readAnswer a) = readRow w a
 rowOf w (seekAnswer a) = soughtRow a
+
+-- a read's row in the code's terms, where a packet names its payload itself
+abbrev pub nextRow : NextPacket → Row
+nextRow (next.Packet p) = packetRow (p .stream) (p .start) (p .len) (p .stamp) (ticks (p .duration))
+nextRow next.End = refusalRow 0 0 0
+nextRow (next.Err e) = refusalRow 3 (refusalOf e .number) (refusalOf e .place)
 
 -- the numbers of all rows, in the order of the calls
 unfoldable pub rowsOf : List ℕ → List ℕ → Walker → List Call → List ℕ

@@ -9,8 +9,10 @@ ghost use mathlib.Core.Path.{_≡_};
 ghost use Prim.Native.Nat.{_+_, _≤_};
 ghost use lib.ListN.{length};
 ghost use Rattle.fields.specs.Le.{put};
+ghost use Rattle.demuxer.specs.Packet.{ticks};
+ghost use Rattle.seek.specs.Seek.{saidSeek};
 ghost use Rattle.recording.specs.Machine.{call};
-ghost use Rattle.replay.specs.Replay.{rowWords, rowAnswer, rowOf, refusalRow, durationRow, nextRow, seekRow, callOf, Replayed, Compared};
+ghost use Rattle.replay.specs.Replay.{rowWords, rowAnswer, rowOf, refusalRow, packetRow, nextRow, soughtRow, callOf, Replayed, Compared};
 
 // An answer as six numbers: what it is, and its values.
 pub struct Row {
@@ -82,7 +84,7 @@ fn refusal_row(said: u64, number: u32, place: u64) -> Row
 }
 
 fn packet_row(packet: Packet) -> Row
-    ensures { λ r. ⌜ r ≡ durationRow packet (packet .duration) ⌝ }
+    ensures { λ r. ⌜ r ≡ packetRow (packet .stream) (packet .start) (packet .len) (packet .stamp) (ticks (packet .duration)) ⌝ }
 {
     let mut row = Row {
         said: Row::PACKET_NO_DURATION,
@@ -111,7 +113,7 @@ fn read_row(answer: NextPacket) -> Row
 }
 
 fn seek_row(result: SeekResult) -> Row
-    ensures { λ r. ⌜ r ≡ seekRow result ⌝ }
+    ensures { λ r. ⌜ r ≡ soughtRow (saidSeek result) ⌝ }
 {
     match result {
         SeekResult::Ok(stamp) => Row {

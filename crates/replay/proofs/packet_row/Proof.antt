@@ -1,5 +1,6 @@
 use mathlib.Core.Path.{sym, ap}
-use Rattle.replay.specs.Replay.{durationRow}
+use Rattle.demuxer.specs.Packet.{ticks}
+use Rattle.replay.specs.Replay.{packetRow}
 use borrow.Author.Needs.{needs}
 use Rattle.replay.proofs.packet_row.Statement.{statement}
 use Rattle.replay.proofs.packet_row.Tie as tie
@@ -19,11 +20,13 @@ enum-told c = search needs
 
 -- src/lib.rt:79:1
 returns : tie.Need-returns
-returns c = sym (ap (durationRow _) (c .before .duration .given .1))
+returns c = let p = c .before .before .before .before .args .packet in
+    sym (ap (λ d. packetRow (p .stream) (p .start) (p .len) (p .stamp) (ticks d)) (c .before .duration .given .1))
 
 -- src/lib.rt:79:1
 returns-2 : tie.Need-returns-2
-returns-2 c = sym (ap (durationRow _) (c .enum-told .given .1))
+returns-2 c = let p = c .before .before .before .args .packet in
+    sym (ap (λ d. packetRow (p .stream) (p .start) (p .len) (p .stamp) (ticks d)) (c .enum-told .given .1))
 
 pub packet-row-spec : {M : Type 1} → statement M
 packet-row-spec = tie.close (tie.spec cast-t5 enum-known-duration enum-told returns returns-2)

@@ -1,5 +1,6 @@
+use Rattle.seek.specs.Seek.{saidSeek}
 use mathlib.Core.Path.{sym, ap, _∙_}
-use Rattle.replay.specs.Replay.{seekRow, refusalRow}
+use Rattle.replay.specs.Replay.{soughtRow, refusalRow}
 use borrow.Author.Needs.{needs}
 use Rattle.replay.proofs.seek_row.Statement.{statement}
 use Rattle.replay.proofs.seek_row.Tie as tie
@@ -31,12 +32,12 @@ refusal-row-requires c κs = search needs
 
 -- src/lib.rt:108:1
 returns : tie.Need-returns
-returns c = sym (ap seekRow (c .before .result .given .1))
+returns c = sym (ap (λ r. soughtRow (saidSeek r)) (c .before .result .given .1))
 
 -- src/lib.rt:108:1
 returns-2 : tie.Need-returns-2
 returns-2 c =
-    c .refusal-row .ensures ∙ (λ i. refusalRow 5 (c .before .before .number .ensures i) (c .before .place .ensures i)) ∙ sym (ap seekRow (c .before .before .before .before .result2 .given .1))
+    c .refusal-row .ensures ∙ (λ i. refusalRow 5 (c .before .before .number .ensures i) (c .before .place .ensures i)) ∙ sym (ap (λ r. soughtRow (saidSeek r)) (c .before .before .before .before .result2 .given .1))
 
 pub seek-row-spec : {M : Type 1} → statement M
 seek-row-spec =
