@@ -10,7 +10,9 @@ use lib.ListN.{length, take, drop, length-take, length-drop}
 use Rattle.fields.specs.Le.{le}
 use Rattle.fields.proofs.Laws.{le-take, le-drop}
 use Rattle.demuxer.specs.Head.{bodyAt, countOf}
+use Rattle.demuxer.specs.Packet.{payloadOf}
 use Rattle.demuxer.specs.declared.head.Body.the-variants.{Whole, Short}
+use Rattle.demuxer.specs.declared.packet.Packet.{Packet}
 
 module _ (file : List ℕ) (start size : ℕ) where
   pub body-short : bodyAt file start size ≡ Short → leb (start + size) (length file) ≡ false
@@ -55,3 +57,8 @@ module _ (file : List ℕ) (start size : ℕ) where
   count-there h k =
       let l : 8 ≤ length (take size (drop start file)) = simp (length-take, length-drop) (omega arith) in
       rw (le-leb _ _ l) (le-take 4 size (drop start file) 4 (omega arith) ∙ le-drop 4 start file 4)
+
+-- a packet's payload that the file has is as long as the packet says
+pub length-payload : (file : List ℕ) (p : Packet) → p .start + p .len ≤ length file → length (payloadOf file p) ≡ p .len
+unfolding payloadOf
+length-payload file p h = rw (le-leb _ _ h) (simp (length-take, length-drop) (omega arith))

@@ -4,15 +4,16 @@ use Prim.Native.Nat.{ℕ, zero, suc, _+_, _*_, _≤_}
 use mathlib.Core.Bool.{Bool, true, false, _&&_}
 use mathlib.Core.List.{List, [], _∷_, _++_}
 use native.Mathlib.Omega.{arith}
-use borrow.Author.Tests.{eq-eqb, ne-eqb, le-leb}
+use borrow.Author.Tests.{eq-eqb, ne-eqb}
 use lib.Dec.{eqb}
 use lib.IntN.{ℤ}
-use lib.ListN.{length, set, length-take, length-drop}
+use lib.ListN.{length, set}
 use Rattle.error.specs.Answer.{Answer, accepted, refused}
 use Rattle.fields.specs.Le.{put}
 use Rattle.fields.proofs.Laws.{sets, stores-put, getD-put-in, getD-put-before}
-use Rattle.demuxer.specs.Packet.{ticks, payloadOf, shownOf}
+use Rattle.demuxer.specs.Packet.{ticks, shownOf}
 use Rattle.demuxer.specs.Read.{packet, saidNext, saidRead, Placed, readOf}
+use Rattle.demuxer.proofs.Bodies.{length-payload}
 use Rattle.demuxer.specs.declared.walker.Walker.{Walker}
 use Rattle.demuxer.specs.declared.walker.Read.{Read}
 use Rattle.demuxer.specs.declared.walker.NextPacket.{NextPacket}
@@ -28,14 +29,10 @@ use Rattle.replay.specs.declared.Row.{Row}
 
 -- ---- the row of an answer, and the answer of a row
 
-payload-length : (file : List ℕ) (p : Packet) → p .start + p .len ≤ length file → length (payloadOf file p) ≡ p .len
-unfolding payloadOf
-payload-length file p h = rw (le-leb _ _ h) (simp (length-take, length-drop) (omega arith))
-
 -- of a packet that is placed where it was read, the row is the one of what is shown
 next-row : (file : List ℕ) (w : Walker) (a : NextPacket) → Placed file w a → nextRow a ≡ readRow w (saidNext file a)
 unfolding shownOf
-next-row file w (next.Packet p) h = λ i. packetRow (p .stream) (h .0 i) (sym (payload-length file p (h .1)) i) (p .stamp) (ticks (p .duration))
+next-row file w (next.Packet p) h = λ i. packetRow (p .stream) (h .0 i) (sym (length-payload file p (h .1)) i) (p .stamp) (ticks (p .duration))
 next-row file w next.End h = refl
 next-row file w (next.Err e) h = refl
 

@@ -5,10 +5,9 @@ use mathlib.Core.List.{List, [], _∷_}
 use mathlib.Core.Option.{Option, none, some}
 use lib.ListN.{length, replicate}
 use Rattle.error.specs.Answer.{Answer, accepted, refused, numberOf, andThen}
-use Rattle.demuxer.specs.Packet.{Shown, ticks}
+use Rattle.demuxer.specs.Packet.{ticks}
 use Rattle.demuxer.specs.Read.{ReadAnswer, packet, End}
 use Rattle.demuxer.specs.Read as read
-use Rattle.demuxer.specs.declared.packet.Packet.{Packet}
 use Rattle.demuxer.specs.declared.packet.PacketDuration.{PacketDuration}
 use Rattle.demuxer.specs.declared.walker.Walker.{Walker}
 use Rattle.prelude.specs.declared.prelude.AmvPrelude.{AmvPrelude}
@@ -49,20 +48,15 @@ shownDuration none = 0
 abbrev pub durationWord : PacketDuration → ℕ
 durationWord d = shownDuration (ticks d)
 
--- a packet: 1, stream, the payload's offset and length, stamp, duration. The payload starts past the 8 bytes at the cursor.
-abbrev pub packetWords : Walker → Shown → List ℕ
-packetWords w p =
-    1 ∷ p .stream ∷ (w .position .cursor + 8) ∷ length (p .payload) ∷ p .stamp ∷ shownDuration (p .duration) ∷ []
+-- a packet: 1, stream, the payload's offset and length, stamp, duration
+abbrev pub packetWords : ℕ → ℕ → ℕ → ℕ → Option ℕ → List ℕ
+packetWords stream start len stamp duration = 1 ∷ stream ∷ start ∷ len ∷ stamp ∷ shownDuration duration ∷ []
 
--- what a read gives: a packet's words, or zeros for End
+-- what a read gives: a packet's words, or zeros for End. The payload starts past the 8 bytes at the cursor.
 abbrev pub readWords : Walker → ReadAnswer → Answer (List ℕ)
-readWords w (packet p) = accepted (packetWords w p)
+readWords w (packet p) = accepted (packetWords (p .stream) (w .position .cursor + 8) (length (p .payload)) (p .stamp) (p .duration))
 readWords w End = accepted (replicate 6 0)
 readWords w (read.refused r) = refused r
-
--- the same of the code's packet, which names its payload by offset and length
-abbrev pub packetOut : Packet → List ℕ
-packetOut p = 0 ∷ 1 ∷ p .stream ∷ p .start ∷ p .len ∷ p .stamp ∷ durationWord (p .duration) ∷ []
 
 -- the fields of a prelude in offset order, and the first chunk's offset
 abbrev pub preludeWords : AmvPrelude → List ℕ

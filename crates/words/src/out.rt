@@ -5,8 +5,9 @@ use error::AmvResult;
 use prelude::prelude::AmvPrelude;
 ghost use mathlib.Core.Path.{_≡_};
 ghost use mathlib.Core.List.{_∷_};
+ghost use Rattle.demuxer.specs.Packet.{ticks};
 ghost use Rattle.error.specs.Refusal.{said};
-ghost use Rattle.words.specs.Out.{Says, checked, durationWord, preludeWords, packetOut};
+ghost use Rattle.words.specs.Out.{Says, checked, durationWord, preludeWords, packetWords};
 
 // The answer of a call that only checks: its number, and its place in `out`.
 pub fn result_out(result: AmvResult, out: &mut [u64; 1]) -> u32
@@ -34,7 +35,7 @@ fn duration_word(duration: PacketDuration) -> u64
 }
 
 pub fn packet_out(packet: Packet) -> [u64; 7]
-    ensures { λ r. ⌜ r ≡ packetOut packet ⌝ }
+    ensures { λ r. ⌜ r ≡ (0 ∷ packetWords (packet .stream) (packet .start) (packet .len) (packet .stamp) (ticks (packet .duration))) ⌝ }
 {
     let duration = packet.duration;
     [

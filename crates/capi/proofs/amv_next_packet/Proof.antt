@@ -86,8 +86,8 @@ returns-2 c =
     let legal = known saidWalker (s .before .before .walker-of .ensures) (s .state .given .1) in
     let given = p .before .before .before .before .answer .given .1 in
     walks 7 _ (nextWalker (a .file .now)) _ legal
-    (says-accepted 7 (read-gave (a .file .now) w (r .ensures .0) given)
-    (c .packet-out .ensures ∙ packet-placed (a .file .now) w _ given (r .ensures .1)))
+    (says-accepted 7 (read-gave (a .file .now) w (r .ensures .0) given ∙ sym (packet-placed (a .file .now) w _ given (r .ensures .1)))
+    (c .packet-out .ensures))
     (p .at-position .ensures ∙ position-kept (a .walker .now) w _ legal ∙ ap walkerWords (sym (packet-moves (a .file .now) w (r .ensures .0) given))
     ∙ ap (λ q. walkerWords (q .walker)) (r .ensures .0))
 
