@@ -1,6 +1,6 @@
 -- Questions one after another: what goes on, what refuses, and what an accepted run has passed. Assumes nothing.
 use mathlib.Core.Path.{_≡_, refl, sym, ap, _∙_}
-use mathlib.Core.Bool.{Bool, true, false}
+use mathlib.Core.Bool.{Bool, true, false, _&&_}
 use Prim.Native.Nat.{ℕ}
 use native.Mathlib.Omega.{arith}
 use Rattle.error.specs.Answer.{Answer, accepted, refused, ask, andThen}
@@ -27,3 +27,8 @@ module _ {B : Type 0} where
   pub ask-passed : (b : Bool) (number place : ℕ) (x : Answer B) {y : B} → ask b number place x ≡ accepted y → (b ≡ true) × (x ≡ accepted y)
   ask-passed true n p x e = (refl, e)
   ask-passed false n p x e = let z : _≡_ {A = ℕ} 0 1 = cc in absurd (omega arith)
+
+-- a question of two parts
+pub both : (a b : Bool) → (a && b) ≡ true → (a ≡ true) × (b ≡ true)
+both true b e = (refl, e)
+both false b e = let z : _≡_ {A = ℕ} 0 1 = cc in absurd (omega arith)

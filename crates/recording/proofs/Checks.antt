@@ -15,7 +15,7 @@ use Rattle.chunk.specs.declared.ChunkKind.{ChunkKind}
 use Rattle.chunk.specs.declared.ChunkKind.the-variants.{Video, Audio, Other}
 use Rattle.chunk.proofs.Chunks.{kind-video, kind-audio}
 use Rattle.error.specs.Answer.{Answer, accepted, refused, andThen}
-use Rattle.error.proofs.Answers.{ask-passed}
+use Rattle.error.proofs.Answers.{ask-passed, both}
 use Rattle.fields.specs.File.{fileLimit, withinLimit}
 use Rattle.fields.specs.Le.{le, leBytes, Bytes}
 use Rattle.fields.proofs.Laws.{le-lt, leBytes-le}
@@ -37,6 +37,7 @@ use Rattle.recording.specs.Check.{passes, tagsOf, checkFrom, checkOf, ch
 use Rattle.recording.specs.declared.check.Totals.{Totals}
 use Rattle.recording.specs.Drain.{frames, samples, blocks}
 use Rattle.recording.specs.Grammar.{Finished}
+use Rattle.recording.proofs.Positions.{length-chunk}
 
 -- ---- a finished file is accepted
 
@@ -61,10 +62,6 @@ tags-walked : (cs : List Chunk) (n : ℕ) → tagsOf (walkOf cs n) ≡ chunkTags
 unfolding tagsOf walkOf chunkTags
 tags-walked [] n = refl
 tags-walked (chunkOf kind payload ∷ cs) n = ap (λ (l : List ℕ). kindTag kind ∷ l) (tags-walked cs n)
-
-length-chunk : (kind : Kind) (payload : List ℕ) → length (chunkBytes (chunkOf kind payload)) ≡ 8 + length payload
-unfolding chunkBytes leBytes
-length-chunk kind payload = omega arith
 
 -- the totals from a position on
 abbrev totalsFrom : Position → Bool → List Chunk → Totals
@@ -122,11 +119,6 @@ Heads file at head.Trailer = Headed file at trailerTag trailerSize
 Heads file at head.Unknown = Unit
 Heads file at (head.Video size) = Headed file at videoTag size
 Heads file at (head.Audio size) = Headed file at audioTag size
-
-both : (a b : Bool) → (a && b) ≡ true → (a ≡ true) × (b ≡ true)
-both true true e = (refl, refl)
-both true false e = let z : _≡_ {A = ℕ} 0 1 = cc in absurd (omega arith)
-both false b e = let z : _≡_ {A = ℕ} 0 1 = cc in absurd (omega arith)
 
 headed : (file : List ℕ) (at : ℕ) → Heads file at (headAt file at)
 unfolding headAt Heads

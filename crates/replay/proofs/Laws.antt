@@ -1,7 +1,7 @@
 -- What rows say, and where they stand.
 use mathlib.Core.Path.{_≡_, refl, sym, ap, _∙_}
 use Prim.Native.Nat.{ℕ, zero, suc, _+_, _*_, _≤_}
-use mathlib.Core.Bool.{Bool, true, false, _&&_}
+use mathlib.Core.Bool.{Bool, true, false, _&&_, and-false}
 use mathlib.Core.List.{List, [], _∷_, _++_}
 use native.Mathlib.Omega.{arith}
 use borrow.Author.Tests.{eq-eqb, ne-eqb}
@@ -120,10 +120,6 @@ answersIn-put file xs at ys (suc n) h l =
 
 pub unequal-streams : (kinds streams : List ℕ) (requests : List ℤ) → (length streams ≡ length kinds → ⊥) → equal kinds streams requests ≡ false
 unequal-streams kinds streams requests n = rw (ne-eqb _ _ n) refl
-
-and-false : (b : Bool) → (b && false) ≡ false
-and-false true = refl
-and-false false = refl
 
 pub unequal-requests : (kinds streams : List ℕ) (requests : List ℤ) → (length requests ≡ length kinds → ⊥) → equal kinds streams requests ≡ false
 unequal-requests kinds streams requests n = rw (ne-eqb (length requests) (length kinds) n) (and-false (eqb (length streams) (length kinds)))

@@ -1,7 +1,7 @@
 -- A run of writing calls, before one of them. Assumes nothing.
 use mathlib.Core.Path.{_≡_, refl, sym, ap, _∙_}
 use Prim.Native.Nat.{ℕ, zero, suc, _+_, _-_, _*_, _≤_, _<_}
-use mathlib.Core.Bool.{Bool, true, false, _&&_}
+use mathlib.Core.Bool.{Bool, true, false, _&&_, and-false}
 use mathlib.Core.List.{List}
 use native.Mathlib.Omega.{arith}
 use borrow.Author.Tests.{eq-eqb, ne-eqb}
@@ -119,10 +119,6 @@ length-calls l at zero = refl
 length-calls l at (suc n) = ap suc (length-calls l (at + 1) n)
 
 -- ---- the slices' lengths
-
-and-false : (b : Bool) → (b && false) ≡ false
-and-false true = refl
-and-false false = refl
 
 pub unequal-streams : (l : Lists) → (length (l .streams) ≡ length (l .kinds) → ⊥) → equal l ≡ false
 unequal-streams l n = rw (ne-eqb _ _ n) refl

@@ -1,6 +1,6 @@
 -- The records of a table, one after another. Assumes nothing.
 use mathlib.Core.Path.{_≡_, refl, sym, ap, _∙_}
-use mathlib.Core.Bool.{Bool, true, false, _&&_, _||_}
+use mathlib.Core.Bool.{Bool, true, false, _&&_, _||_, and-false, and-true}
 use mathlib.Core.List.{List, [], _∷_}
 use mathlib.Core.Option.{some}
 use Prim.Native.Nat.{ℕ, zero, suc, _+_, _-_, _*_, _/_, _≤_, _<_}
@@ -22,14 +22,6 @@ use Rattle.seek.specs.Seek.{goodEntry, goodEntries, stampOf, least, reac
 
 abbrev pub knownTag : ChunkIndexEntry → Bool
 knownTag e = eqb (e .tag) videoTag || eqb (e .tag) audioTag
-
-and-false : (b : Bool) → (b && false) ≡ false
-and-false true = refl
-and-false false = refl
-
-and-true : (b : Bool) → (b && true) ≡ b
-and-true true = refl
-and-true false = refl
 
 -- with too many samples no tag helps; with few enough the tags alone decide
 pub good-many : (e : ChunkIndexEntry) → countLimit ≤ e .position .samples .0 → goodEntry e ≡ false

@@ -9,6 +9,7 @@ use lib.Dec.{leb, eqb}
 use lib.ListN.{length, drop}
 use lib.Seq.{drop-cons, drop-length}
 use Rattle.error.specs.Answer.{accepted}
+use Rattle.error.proofs.Answers.{both}
 use Rattle.demuxer.specs.Read.{advanced}
 use Rattle.demuxer.specs.declared.position.Position.{Position}
 use Rattle.demuxer.specs.declared.walker.Walker.{Walker}
@@ -54,11 +55,6 @@ mark-back false = refl
 mark-legal : (mark : Bool) → leb (markWord mark) 1 ≡ true
 mark-legal true = refl
 mark-legal false = refl
-
-both : (a b : Bool) → (a && b) ≡ true → (a ≡ true) × (b ≡ true)
-both true true e = (refl, refl)
-both true false e = (refl, e)
-both false b e = let z : _≡_ {A = ℕ} 0 1 = cc in absurd (omega arith)
 
 -- ---- a whole state
 
