@@ -7,7 +7,16 @@ use Rattle.error.specs.Answer.{Answer, accepted, refused, ask, andThen}
 use Rattle.error.specs.Refusal.{refusalOf, said}
 use Rattle.error.specs.declared.AmvError.{AmvError}
 use Rattle.error.specs.declared.AmvResult.{AmvResult}
+use Rattle.error.specs.declared.Refusal.{Refusal}
 use Rattle.error.specs.declared.AmvResult.the-variants.{Ok, Err}
+
+-- no accepted answer is a refusal
+pub never : {A B : Type 0} {x : A} {r : Refusal} → _≡_ {A = Answer A} (accepted x) (refused r) → B
+never e = let z : _≡_ {A = ℕ} 0 1 = cc in absurd (omega arith)
+
+-- equal answers accept the same value
+pub accepted-same : {A : Type 0} {x y : A} → _≡_ {A = Answer A} (accepted x) (accepted y) → x ≡ y
+accepted-same e = cc
 
 module _ {B : Type 0} where
   -- a call that only checks, and what is asked after it
@@ -21,12 +30,12 @@ module _ {B : Type 0} where
   -- what was accepted has passed the first call and the second
   pub then-passed : (x : Answer Unit) (rest : Unit → Answer B) {b : B} → andThen x rest ≡ accepted b → (x ≡ accepted tt) × (rest tt ≡ accepted b)
   then-passed (accepted u) rest e = (refl, e)
-  then-passed (refused r) rest e = let z : _≡_ {A = ℕ} 0 1 = cc in absurd (omega arith)
+  then-passed (refused r) rest e = never (sym e)
 
   -- and each question
   pub ask-passed : (b : Bool) (number place : ℕ) (x : Answer B) {y : B} → ask b number place x ≡ accepted y → (b ≡ true) × (x ≡ accepted y)
   ask-passed true n p x e = (refl, e)
-  ask-passed false n p x e = let z : _≡_ {A = ℕ} 0 1 = cc in absurd (omega arith)
+  ask-passed false n p x e = never (sym e)
 
 -- a question of two parts
 pub both : (a b : Bool) → (a && b) ≡ true → (a ≡ true) × (b ≡ true)

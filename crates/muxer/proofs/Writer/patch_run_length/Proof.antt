@@ -1,3 +1,6 @@
+use mathlib.Core.Path.{ap, _∙_}
+use Rattle.duration.specs.Duration.{packedOf}
+use Rattle.fields.specs.Le.{putLe}
 use native.Mathlib.Omega.{arith}
 use borrow.Author.Tests.{lt-ltb, le-ltb}
 use Rattle.muxer.specs.Writer.{patchRunLength}
@@ -41,7 +44,9 @@ same-length c = search needs
 returns-3 : tie.Need-returns-3
 unfolding patchRunLength
 returns-3 c = let s = c .before .before .before .before .before .before .before .before .before .before .before .args .self in
-    rw (lt-ltb 0 (s .settings .fps) (omega arith), lt-ltb 0 (s .frames) (omega arith)) (cc)
+    let packed = c .before .before .before .to-packed .ensures ∙ ap packedOf (c .before .before .before .before .before .from-frame-count .ensures) in
+    rw (lt-ltb 0 (s .settings .fps) (omega arith), lt-ltb 0 (s .frames) (omega arith))
+    (c .before .before .write-u32-le .ensures ∙ ap (putLe 4 _ 84) packed)
 
 pub patch-run-length-spec : {M : Type 1} → statement M
 patch-run-length-spec =

@@ -1,3 +1,7 @@
+use mathlib.Core.Path.{ap, _∙_}
+use Prim.Native.Nat.{ℕ}
+use mathlib.Core.List.{List}
+use Rattle.fields.specs.Le.{putLe}
 use Rattle.prelude.specs.Stores.{waveFormatStores}
 use borrow.Author.Needs.{needs}
 use Rattle.prelude.proofs.build.write_wave_format.Statement.{statement}
@@ -43,7 +47,19 @@ same-length c = search needs
 -- src/build.rt:57:1
 returns : tie.Need-returns
 unfolding waveFormatStores
-returns c = cc
+returns c =
+    let sixth = c .before .before in
+    let fifth = sixth .before .before .before .before in
+    let fourth = fifth .before .before .before .before in
+    let third = fourth .before .before .before .before .before in
+    let second = third .before .before .before .before in
+    let first = second .before .before .before .before in
+    let a = first .before .before .before .args in
+    let e = second .write-u16-le2 .ensures ∙ ap (λ (l : List ℕ). putLe 2 l 286 (a .channels)) (first .write-u16-le .ensures) in
+    let e = third .write-u32-le .ensures ∙ ap (λ (l : List ℕ). putLe 4 l 288 (a .rate)) e in
+    let e = fourth .write-u32-le2 .ensures ∙ (λ i. putLe 4 (e i) 292 (fourth .before .saturating-mul .ensures i)) in
+    let e = fifth .write-u16-le3 .ensures ∙ ap (λ (l : List ℕ). putLe 2 l 296 2) e in
+    sixth .write-u16-le4 .ensures ∙ ap (λ (l : List ℕ). putLe 2 l 298 16) e
 
 pub write-wave-format-spec : {M : Type 1} → statement M
 write-wave-format-spec =

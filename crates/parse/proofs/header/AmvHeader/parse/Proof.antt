@@ -1,4 +1,5 @@
 use borrow.Author.Tests.{le-leb, lt-leb}
+use Rattle.error.specs.Answer.{accepted}
 use Rattle.parse.specs.Header.{headerOf, headerFields}
 use borrow.Author.Needs.{needs}
 use Rattle.parse.proofs.header.AmvHeader.parse.Statement.{statement}
@@ -43,7 +44,18 @@ read-u32-le-requires-7 c κs = search needs
 -- src/header.rt:27:5
 returns-2 : tie.Need-returns-2
 unfolding headerOf headerFields
-returns-2 c = rw (le-leb _ _ (c .before .before .before .before .before .before .before .if1 .left)) (cc)
+returns-2 c =
+    rw
+    (le-leb _ _ (c .before .before .before .before .before .before .before .if1 .left))
+    (λ i. accepted (record {
+      «micros_per_frame» = c .before .before .before .before .before .before .read-u32-le .ensures i;
+      width = c .before .before .before .before .before .read-u32-le2 .ensures i;
+      height = c .before .before .before .before .read-u32-le3 .ensures i;
+      fps = c .before .before .before .read-u32-le4 .ensures i;
+      «flag_one» = c .before .before .read-u32-le5 .ensures i;
+      «reserved_30» = c .before .read-u32-le6 .ensures i;
+      «duration_packed» = c .read-u32-le7 .ensures i;
+    }))
 
 pub parse-spec : {M : Type 1} → statement M
 parse-spec =

@@ -1,4 +1,5 @@
 use borrow.Author.Tests.{le-leb, lt-leb}
+use Rattle.error.specs.Answer.{accepted}
 use Rattle.parse.specs.Preamble.{preambleOf}
 use borrow.Author.Needs.{needs}
 use Rattle.parse.proofs.preamble.AmvAudioPreamble.parse.Statement.{statement}
@@ -23,7 +24,10 @@ read-u32-le-requires-2 c κs = search needs
 -- src/preamble.rt:34:5
 returns-2 : tie.Need-returns-2
 unfolding preambleOf
-returns-2 c = rw (le-leb _ _ (c .before .before .if1 .left)) (cc)
+returns-2 c =
+    rw
+    (le-leb _ _ (c .before .before .if1 .left))
+    (λ i. accepted (record { state = c .before .read-u32-le .ensures i; «decoded_sample_count» = c .read-u32-le2 .ensures i }))
 
 pub parse-spec : {M : Type 1} → statement M
 parse-spec = tie.close (tie.spec returns read-u32-le-requires read-u32-le-requires-2 returns-2)

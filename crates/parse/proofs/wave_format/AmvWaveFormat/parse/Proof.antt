@@ -1,4 +1,5 @@
 use borrow.Author.Tests.{le-leb, lt-leb}
+use Rattle.error.specs.Answer.{accepted}
 use Rattle.parse.specs.WaveFormat.{waveFormatOf, waveFormatFields}
 use borrow.Author.Needs.{needs}
 use Rattle.parse.proofs.wave_format.AmvWaveFormat.parse.Statement.{statement}
@@ -45,7 +46,18 @@ cb-size-requires c κs = search needs
 -- src/wave_format.rt:35:5
 returns-2 : tie.Need-returns-2
 unfolding waveFormatOf waveFormatFields
-returns-2 c = rw (le-leb _ _ (c .before .before .before .before .before .before .before .if1 .left)) (cc)
+returns-2 c =
+    rw
+    (le-leb _ _ (c .before .before .before .before .before .before .before .if1 .left))
+    (λ i. accepted (record {
+      «format_tag» = c .before .before .before .before .before .before .read-u16-le .ensures i;
+      channels = c .before .before .before .before .before .read-u16-le2 .ensures i;
+      «samples_per_sec» = c .before .before .before .before .read-u32-le .ensures i;
+      «avg_bytes_per_sec» = c .before .before .before .read-u32-le2 .ensures i;
+      «block_align» = c .before .before .read-u16-le3 .ensures i;
+      «bits_per_sample» = c .before .read-u16-le4 .ensures i;
+      «cb_size» = c .cb-size .ensures i;
+    }))
 
 pub parse-spec : {M : Type 1} → statement M
 parse-spec =

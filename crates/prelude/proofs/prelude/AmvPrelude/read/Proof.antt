@@ -1,10 +1,9 @@
 use Rattle.error.specs.Answer.{accepted}
-use mathlib.Core.Path.{_≡_, sym, ap, _∙_}
-use Prim.Native.Nat.{ℕ}
-use native.Mathlib.Omega.{arith}
-use Rattle.parse.specs.Header.{headerFields, saidHeader}
-use Rattle.parse.specs.WaveFormat.{waveFormatFields, saidWaveFormat}
-use Rattle.prelude.specs.Prelude.{between, preludeFields}
+use Rattle.error.proofs.Answers.{never, accepted-same}
+use mathlib.Core.Path.{sym, ap, _∙_}
+use Rattle.parse.specs.Header.{saidHeader}
+use Rattle.parse.specs.WaveFormat.{saidWaveFormat}
+use Rattle.prelude.specs.Prelude.{preludeFields}
 use Rattle.prelude.proofs.Bodies.{header-body, wave-format-body}
 use borrow.Author.Needs.{needs}
 use Rattle.prelude.proofs.prelude.AmvPrelude.read.Statement.{statement}
@@ -41,10 +40,9 @@ enum-known-e c = search needs
 -- src/prelude.rt:161:40
 returns : tie.Need-returns
 returns c =
-    let file = c .before .before .before .before .before .before .args .file .now in
-    let got = sym (ap saidHeader (c .before .e .given .1)) ∙ c .before .before .before .parse .ensures ∙ header-body file (omega arith) in
-    let z : _≡_ {A = ℕ} 0 1 = cc in
-    absurd (omega arith)
+    let start = c .before .before .before .before .before .before in
+    let file = start .args .file .now in
+    never (sym (header-body file (start .pre)) ∙ sym (c .before .before .before .parse .ensures) ∙ ap saidHeader (c .before .e .given .1))
 
 -- src/prelude.rt:163:55
 sub-parse-2 : tie.Need-sub-parse-2
@@ -73,22 +71,20 @@ enum-known-e-2 c = search needs
 -- src/prelude.rt:165:44
 returns-2 : tie.Need-returns-2
 returns-2 c =
-    let file = c .before .before .before .before .before .before .before .before .before .before .before .args .file .now in
-    let got = sym (ap saidWaveFormat (c .before .e2 .given .1)) ∙ c .before .before .before .parse2 .ensures ∙ wave-format-body file (omega arith) in
-    let z : _≡_ {A = ℕ} 0 1 = cc in
-    absurd (omega arith)
+    let start = c .before .before .before .before .before .before .before .before .before .before .before in
+    let file = start .args .file .now in
+    never (sym (wave-format-body file (start .pre)) ∙ sym (c .before .before .before .parse2 .ensures) ∙ ap saidWaveFormat (c .before .e2 .given .1))
 
 -- src/prelude.rt:155:5
 returns-3 : tie.Need-returns-3
 unfolding preludeFields
-returns-3 c = let file = c .before .before .before .before .before .before .before .before .before .before .before .args .file .now in
+returns-3 c = let start = c .before .before .before .before .before .before .before .before .before .before .before in
+    let file = start .args .file .now in
     let header = c .before .before .before .before .before .before .header .given in
     let format = c .before .format .given in
-    let h = sym (ap saidHeader (header .1)) ∙ c .before .before .before .before .before .before .before .before .parse .ensures ∙ header-body file (omega arith) in
-    let f = sym (ap saidWaveFormat (format .1)) ∙ c .before .before .before .parse2 .ensures ∙ wave-format-body file (omega arith) in
-    let p : header .0 .0 ≡ headerFields (between 32 88 file) = cc in
-    let q : format .0 .0 ≡ waveFormatFields (between 284 304 file) = cc in
-    λ i. accepted (record { header = p i; «audio_format» = q i; «movi_payload_start» = 316 })
+    let h = sym (ap saidHeader (header .1)) ∙ c .before .before .before .before .before .before .before .before .parse .ensures ∙ header-body file (start .pre) in
+    let f = sym (ap saidWaveFormat (format .1)) ∙ c .before .before .before .parse2 .ensures ∙ wave-format-body file (start .pre) in
+    λ i. accepted (record { header = accepted-same h i; «audio_format» = accepted-same f i; «movi_payload_start» = 316 })
 
 pub read-spec : {M : Type 1} → statement M
 read-spec =
