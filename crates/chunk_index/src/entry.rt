@@ -7,7 +7,7 @@ ghost use mathlib.Core.Path.{_≡_};
 ghost use Prim.Native.Nat.{_+_, _≤_};
 ghost use lib.ListN.{length};
 ghost use Rattle.fields.specs.Le.{put};
-ghost use Rattle.chunk_index.specs.Entry.{entryBytes, entryAt, Small};
+ghost use Rattle.chunk_index.specs.Entry.{entryLen, entryBytes, entryAt, Small};
 
 // A chunk's tag, and where it stands.
 pub struct ChunkIndexEntry {
@@ -20,7 +20,7 @@ impl ChunkIndexEntry {
     pub const LEN: usize = 24;
 
     pub fn read(table: &[u8], at: usize) -> ChunkIndexEntry
-        requires { ⌜ at + 24 ≤ length (now table) ⌝ }
+        requires { ⌜ at + entryLen ≤ length (now table) ⌝ }
         ensures { λ r. ⌜ r ≡ entryAt (now (table .entry)) at ⌝ }
     {
         let tag = fields::read_u32_le(table, at);
@@ -38,7 +38,7 @@ impl ChunkIndexEntry {
     }
 
     pub fn write(self, table: &mut [u8], at: usize)
-        requires { ⌜ at + 24 ≤ length (now table) ⌝ }
+        requires { ⌜ at + entryLen ≤ length (now table) ⌝ }
         requires { ⌜ Small (self .position) ⌝ }
         ensures { λ _. ⌜ now (table .exit) ≡ put (now (table .entry)) at (entryBytes self) ⌝ }
     {

@@ -12,6 +12,7 @@ ghost use lib.ListN.{length};
 ghost use Rattle.chunk.specs.Chunk.{streamTag, trailerBytes};
 ghost use Rattle.error.specs.Answer.{accepted};
 ghost use Rattle.error.specs.Refusal.{said};
+ghost use Rattle.fields.specs.File.{fileLimit};
 ghost use Rattle.fields.specs.Le.{put};
 ghost use Rattle.prelude.specs.Built.{preludeBytes};
 ghost use Rattle.muxer.specs.Writer.{fresh, fits, framesAfter, packetBytes, patchRunLength, askOpen, headerQuestions, packetQuestions, trailerQuestions, afterHeader, afterPacket, afterTrailer, headerCall, packetCall, trailerCall, Meets, acceptedWith, refusedWith};
@@ -221,7 +222,7 @@ impl Writer {
     }
 
     fn after_packet(self, size: usize, stream: u32) -> Writer
-        requires { ⌜ self .written + (8 + size) ≤ 4294967295 ⌝ }
+        requires { ⌜ self .written + (8 + size) ≤ fileLimit ⌝ }
         ensures { λ r. ⌜ r ≡ afterPacket self size stream ⌝ }
     {
         let settings = self.settings;
@@ -235,7 +236,7 @@ impl Writer {
     }
 
     fn after_trailer(self) -> Writer
-        requires { ⌜ self .written + 8 ≤ 4294967295 ⌝ }
+        requires { ⌜ self .written + 8 ≤ fileLimit ⌝ }
         ensures { λ r. ⌜ r ≡ afterTrailer self ⌝ }
     {
         let settings = self.settings;
