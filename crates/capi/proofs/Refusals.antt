@@ -3,12 +3,12 @@ use mathlib.Core.Path.{_≡_, refl, ap, _∙_}
 use Prim.Native.Nat.{ℕ, _+_, _*_}
 use mathlib.Core.List.{List}
 use mathlib.Core.Option.{Option, none, some}
-use native.Mathlib.Omega.{arith}
 use lib.Dec.{leb}
 use lib.IntN.{ℤ}
 use lib.ListN.{length}
 use Rattle.error.specs.Answer.{Answer, accepted, refused, ask, andThen}
 use Rattle.error.specs.declared.Refusal.{Refusal}
+use Rattle.error.proofs.Answers.{never}
 use Rattle.fields.specs.File.{withinLimit}
 use Rattle.demuxer.specs.Position.{inRange}
 use Rattle.demuxer.specs.Head.{headAt}
@@ -31,10 +31,6 @@ use Rattle.capi.specs.Calls.{single, nextAnswer, nextWalker, seekAnswer,
 use Rattle.capi.specs.Lists.{step}
 use Rattle.capi.specs.Refusals.{RefusalsKeep}
 use Rattle.capi.proofs.Laws.{either}
-
--- no accepted answer is a refusal
-never : {A B : Type 0} {x : A} {r : Refusal} → _≡_ {A = Answer A} (accepted x) (refused r) → B
-never e = let z : _≡_ {A = ℕ} 0 1 = cc in absurd (omega arith)
 
 -- ---- the calls
 
