@@ -1,3 +1,4 @@
+use mathlib.Core.List.{[], _∷_}
 use borrow.Author.Needs.{needs}
 use Rattle.words.proofs.walker.walker_words.Statement.{statement}
 use Rattle.words.proofs.walker.walker_words.Tie as tie
@@ -20,7 +21,8 @@ trailer-word-requires c κs = search needs
 
 -- src/walker.rt:68:1
 returns : tie.Need-returns
-returns c = cc
+returns c = let p = c .before .before .before .before .args .walker .position in
+    λ i. p .cursor ∷ p .frames .0 ∷ p .samples .0 ∷ p .blocks .0 ∷ c .before .before .mark-word .ensures i ∷ c .before .mark-word2 .ensures i ∷ c .trailer-word .ensures i ∷ []
 
 pub walker-words-spec : {M : Type 1} → statement M
 walker-words-spec =

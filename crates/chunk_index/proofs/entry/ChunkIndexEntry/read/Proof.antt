@@ -58,7 +58,17 @@ read-u64-le-requires c κs = search needs
 -- src/entry.rt:22:5
 returns : tie.Need-returns
 unfolding entryAt
-returns c = cc
+returns c =
+    λ i. record {
+      tag = c .before .before .before .before .read-u32-le .ensures i;
+      position =
+          record {
+            cursor = c .before .before .before .read-u32-le2 .ensures i;
+            frames = record { 0 = c .before .before .read-u32-le3 .ensures i };
+            samples = record { 0 = c .read-u64-le .ensures i };
+            blocks = record { 0 = c .before .read-u32-le4 .ensures i };
+          };
+    }
 
 pub read-spec : {M : Type 1} → statement M
 read-spec =

@@ -1,7 +1,6 @@
-use Prim.Native.Nat.{_+_, _≤_}
-use lib.ListN.{length}
-use mathlib.Core.Path.{_≡_, sym, ap, _∙_}
-use native.Mathlib.Omega.{arith}
+use Prim.Native.Nat.{ℕ, _+_}
+use mathlib.Core.List.{List}
+use mathlib.Core.Path.{ap, _∙_}
 use Rattle.fields.specs.Le.{putLe}
 use Rattle.chunk_index.proofs.Entries.{entry-stored}
 use borrow.Author.Needs.{needs}
@@ -67,10 +66,18 @@ same-length c = search needs
 -- src/entry.rt:40:5
 returns : tie.Need-returns
 returns c =
-    let a = c .before .before .before .before .before .before .before .before .before .before .before .before .before .before .before .before .before .before .before .before .before .before .before .before .before .args in
-    let h : a .at + 24 ≤ length (a .table .now) = c .before .before .before .before .before .before .before .before .before .before .before .before .before .before .before .before .before .before .before .before .before .before .before .before .before .pre .0 in
-    let stored = entry-stored (a .table .now) (a .at) (a .self) h in
-    cc
+    let fifth = c .before .before in
+    let fourth = fifth .before .before .before .before in
+    let third = fourth .before .before .before .before .before in
+    let second = third .before .before .before .before .before in
+    let first = second .before .before .before .before .before in
+    let start = first .before .before .before .before in
+    let a = start .args in
+    let e = second .write-u32-le2 .ensures ∙ ap (λ (l : List ℕ). putLe 4 l (a .at + 4) (a .self .position .cursor)) (first .write-u32-le .ensures) in
+    let e = third .write-u32-le3 .ensures ∙ ap (λ (l : List ℕ). putLe 4 l (a .at + 8) (a .self .position .frames .0)) e in
+    let e = fourth .write-u32-le4 .ensures ∙ ap (λ (l : List ℕ). putLe 4 l (a .at + 12) (a .self .position .blocks .0)) e in
+    let e = fifth .write-u64-le .ensures ∙ ap (λ (l : List ℕ). putLe 8 l (a .at + 16) (a .self .position .samples .0)) e in
+    e ∙ entry-stored (a .table .now) (a .at) (a .self) (start .pre .0)
 
 pub write-spec : {M : Type 1} → statement M
 write-spec =
