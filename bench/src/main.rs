@@ -92,7 +92,7 @@ fn races(runs: usize) {
     (LIBRARY.index)(&frames, &mut table);
     race(
         "seek, for a record of the table",
-        runs / 16,
+        runs.div_ceil(16),
         sides::SEEKS as usize * count,
         |side| (side.seeks)(&table),
     );
@@ -139,7 +139,8 @@ fn growth() {
 fn main() {
     let runs = std::env::args()
         .nth(1)
-        .map_or(3001, |word| word.parse().unwrap());
+        .map_or(3001, |word| word.parse().expect("RUNS is a number"));
+    assert!(runs > 0, "RUNS is at least 1");
     races(runs);
     growth();
 }
