@@ -48,7 +48,7 @@ unfoldable pub tagsIn : List ℕ → ℕ → List ℕ
 tagsIn bytes zero = []
 tagsIn bytes (suc n) = tagsIn bytes n ++ (le 4 bytes (4 * n) ∷ [])
 
--- the stream in a case's words
+-- the stream in a case's words: the low 32 bits of the first
 abbrev pub streamIn : List ℕ → ℕ
 streamIn head = getD head 0 0 % 4294967296
 
