@@ -12,12 +12,8 @@ use Rattle.demuxer.specs.Head.{headAt}
 use Rattle.demuxer.specs.Read.{payloadAt}
 use Rattle.demuxer.specs.declared.head.Head.{Head}
 use Rattle.demuxer.specs.declared.head.Head.the-variants as head
+use Rattle.demuxer.proofs.Heads.{head-out}
 use Rattle.chunk_index.specs.Walk.{frame, sound, Walk, chunk, onHead, walkFor, walk}
-
--- past the end there is no header
-head-out : (file : List ℕ) (at : ℕ) → length file < at + 8 → headAt file at ≡ head.Short
-unfolding headAt
-head-out file at h = rw (lt-leb (at + 8) (length file) h)
 
 -- where there is one, its 8 bytes are
 pub head-there : (file : List ℕ) (at : ℕ) → (headAt file at ≡ head.Short → ⊥) → at + 8 ≤ length file

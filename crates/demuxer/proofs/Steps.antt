@@ -51,13 +51,19 @@ module _ (file : List ℕ) (w : Walker) (size : ℕ) where
       let b = body-whole file (w .position .cursor + 8) size s n e in
       rw (o, q, p, b .1, b .2, b .0)
 
+yes : {A : Type 0} {t : Bool} (x y : A) → t ≡ true → cond t x y ≡ x
+yes x y e = rw e
+
+no : {A : Type 0} {t : Bool} (x y : A) → t ≡ false → cond t x y ≡ y
+no x y e = rw e
+
 -- a read that is asked and has not ended looks at the cursor
 pub read-on : (file : List ℕ) (w : Walker) → withinLimit file ≡ true → inRange (w .position) ≡ true → w .end ≡ false → readOf file w ≡ readChunk file w
 unfolding readOf
 read-on file w a b c = yes _ _ a ∙ yes _ _ b ∙ no _ _ c
-  where
-    yes : {A : Type 0} {t : Bool} (x y : A) → t ≡ true → cond t x y ≡ x
-    yes x y e = rw e
 
-    no : {A : Type 0} {t : Bool} (x y : A) → t ≡ false → cond t x y ≡ y
-    no x y e = rw e
+-- and one that has ended does not
+pub read-ended : (file : List ℕ) (w : Walker) → withinLimit file ≡ true → inRange (w .position) ≡ true → w .end ≡ true
+    → readOf file w ≡ record { answer = End; walker = w }
+unfolding readOf
+read-ended file w a b c = yes _ _ a ∙ yes _ _ b ∙ yes _ _ c

@@ -2,3 +2,4 @@ pub mod Position
 pub mod Head
 pub mod Packet
 pub mod Read
+pub mod Sentences
