@@ -1,13 +1,13 @@
 -- A record written is a record read. Assumes nothing.
 use mathlib.Core.Path.{_≡_, refl, sym, ap, _∙_}
-use mathlib.Core.List.{List, _++_}
-use Prim.Native.Nat.{ℕ, _+_, _^_, _≤_, _<_}
+use mathlib.Core.List.{List, [], _∷_, _++_}
+use Prim.Native.Nat.{ℕ, _+_, _*_, _^_, _≤_, _<_}
 use native.Mathlib.Nat.{add-zero}
 use native.Mathlib.Omega.{arith}
-use lib.ListN.{length, take, drop}
+use lib.ListN.{length, take, drop, length-append}
 use Rattle.fields.specs.Le.{le, leBytes, put, putLe}
 use Rattle.fields.proofs.Laws.{put-put, le-append-right, le-leBytes}
-use Rattle.chunk_index.specs.Entry.{entryBytes, entryAt, Small}
+use Rattle.chunk_index.specs.Entry.{entryLen, entryBytes, tableBytes, entryAt, Small}
 use Rattle.chunk_index.specs.declared.entry.ChunkIndexEntry.{ChunkIndexEntry}
 
 -- five stores, one after another, write the record
@@ -31,6 +31,11 @@ entry-stored table at e h =
 pub length-entryBytes : (e : ChunkIndexEntry) → length (entryBytes e) ≡ 24
 unfolding leBytes entryBytes
 length-entryBytes e = refl
+
+pub length-table : (es : List ChunkIndexEntry) → length (tableBytes es) ≡ entryLen * length es
+unfolding tableBytes
+length-table [] = refl
+length-table (e ∷ es) = omega (arith, length-append (entryBytes e) (tableBytes es), length-entryBytes e, length-table es)
 
 -- a record written after xs is the record read there
 pub entry-back : (xs ys : List ℕ) (e : ChunkIndexEntry) → e .tag < 256 ^ 4 → Small (e .position) → e .position .samples .0 < 256 ^ 8

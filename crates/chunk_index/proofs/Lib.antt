@@ -5,3 +5,4 @@ pub mod Counting
 pub mod Writing
 pub mod Building
 pub mod Chunked
+pub mod Sentences

@@ -3,3 +3,4 @@ pub mod Entry
 pub mod Index
 pub mod Steps
 pub mod Chunks
+pub mod Sentences

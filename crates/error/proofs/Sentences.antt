@@ -1,10 +1,25 @@
 -- The numbers of questions that are asked one after another. Assumes nothing.
-use mathlib.Core.Path.{_≡_}
+use mathlib.Core.Path.{_≡_, refl}
 use Prim.Native.Nat.{ℕ}
-use mathlib.Core.Bool.{Bool, true, false}
-use mathlib.Core.List.{List}
+use mathlib.Core.Bool.{Bool, true, false, _||_}
+use mathlib.Core.List.{List, [], _∷_, _++_}
+use native.Mathlib.Omega.{arith}
+use lib.Dec.{eqb}
 use Rattle.error.specs.Answer.{Answer, accepted, refused, ask, andThen}
 use Rattle.error.specs.Sentences.{oneOf, RefusedBy}
+
+-- more numbers list no fewer
+listed-more : (ms ns : List ℕ) (n : ℕ) → oneOf ms n ≡ true → oneOf (ms ++ ns) n ≡ true
+listed-more [] ns n e = let z : _≡_ {A = ℕ} 0 1 = cc in absurd (omega arith)
+listed-more (m ∷ ms) ns n e = go (eqb m n) e (listed-more ms ns n)
+  where
+    go : (b : Bool) → (b || oneOf ms n) ≡ true → (oneOf ms n ≡ true → oneOf (ms ++ ns) n ≡ true) → (b || oneOf (ms ++ ns) n) ≡ true
+    go true e later = refl
+    go false e later = later e
+
+pub more-by : {A : Type 0} (ms ns : List ℕ) (a : Answer A) → RefusedBy ms a → RefusedBy (ms ++ ns) a
+more-by ms ns (accepted x) h = tt
+more-by ms ns (refused r) h = listed-more ms ns (r .number) h
 
 module _ (numbers : List ℕ) where
   pub asked-by : {A : Type 0} (b : Bool) (number place : ℕ) (rest : Answer A) → oneOf numbers number ≡ true → RefusedBy numbers rest

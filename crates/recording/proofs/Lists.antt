@@ -29,7 +29,8 @@ use Rattle.recording.specs.Grammar.{Finished}
 use Rattle.recording.specs.Drain.{drain}
 use Rattle.recording.specs.Machine.{Call, read, seek, MachineStep, onRead, onSeek, first, refuses, machineStep, machineSays, machineAfter, readAnswer, seekAnswer, Called, call, answers, after, Agrees, AllAgree, Left, none-left, one-more, AtChunk, Agreement, OwnIndex, ReadsAndSeeks, HasIndex}
 use Rattle.recording.proofs.Positions.{passed, shownAt, positionAt, length-drain, Here, here, chunks-split, counted, bounded}
-use Rattle.recording.proofs.Tables.{marks, index-marks, length-table, table-back, marks-fit}
+use Rattle.chunk_index.proofs.Entries.{length-table}
+use Rattle.recording.proofs.Tables.{marks, index-marks, table-back, marks-fit}
 use Rattle.recording.proofs.Seeks.{Finds, hit, miss, finds, all-good, last-range}
 use Rattle.recording.proofs.Readings.{read-chunk, read-trailer, read-ended}
 

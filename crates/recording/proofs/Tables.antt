@@ -22,7 +22,7 @@ use Rattle.chunk_index.specs.Entry.{entry, entryBytes, Small, tableBytes, entri
 use Rattle.chunk_index.specs.Index.{Built, builtFrom, buildOf, recorded, records, tagsKnown, fileWalk, indexOf}
 use Rattle.chunk_index.specs.declared.entry.ChunkIndexEntry.{ChunkIndexEntry}
 use Rattle.chunk_index.proofs.Chunked.{tag-held, chunks-walked}
-use Rattle.chunk_index.proofs.Entries.{entry-back, length-entryBytes}
+use Rattle.chunk_index.proofs.Entries.{entry-back, length-entryBytes, length-table}
 use Rattle.recording.specs.Grammar.{Finished}
 use Rattle.recording.specs.Machine.{OwnIndex}
 use Rattle.recording.proofs.Positions.{passed, Bounded, stepped, length-chunk, bytes-payload}
@@ -72,11 +72,6 @@ pub record Fits (e : ChunkIndexEntry) : Type 0 where
 abbrev pub AllFit : List ChunkIndexEntry → Type 0
 AllFit [] = Unit
 AllFit (e ∷ es) = Fits e × AllFit es
-
-pub length-table : (es : List ChunkIndexEntry) → length (tableBytes es) ≡ 24 * length es
-unfolding tableBytes
-length-table [] = refl
-length-table (e ∷ es) = omega (arith, length-append (entryBytes e) (tableBytes es), length-entryBytes e, length-table es)
 
 pub entries-back : (xs : List ℕ) (es : List ChunkIndexEntry) → AllFit es → entriesFrom (length es) (xs ++ tableBytes es) (length xs) ≡ es
 unfolding tableBytes entriesFrom

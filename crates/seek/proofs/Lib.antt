@@ -1,2 +1,3 @@
 pub mod Records
 pub mod Seeks
+pub mod Sentences

@@ -1,0 +1,225 @@
+-- 01's sentences about index and summary hold. A chunk that is cut is followed through its bytes, and the walk ends after it; counts go by
+-- induction over the walk; the rest by the cases of the questions. Assumes nothing.
+use mathlib.Core.Path.{_≡_, refl, sym, ap, _∙_}
+use mathlib.Core.Bool.{Bool, true, false, cond}
+use mathlib.Core.List.{List, [], _∷_}
+use Prim.Native.Nat.{ℕ, suc, _+_, _*_, _≤_, _<_, min}
+use native.Mathlib.Nat.{add-zero}
+use native.Mathlib.Omega.{arith}
+use borrow.Author.Tests.{le-leb, lt-leb}
+use lib.Dec.{leb}
+use lib.ListN.{length, drop, length-append}
+use lib.Seq.{drop-at}
+use Rattle.chunk.specs.Chunk.{videoTag, audioTag}
+use Rattle.error.specs.Answer.{Answer, accepted, refused, ask, andThen}
+use Rattle.error.specs.Sentences.{oneOf, RefusedBy}
+use Rattle.error.specs.declared.Refusal.{Refusal}
+use Rattle.error.proofs.Answers.{never, accepted-same}
+use Rattle.error.proofs.Sentences.{asked-by, then-by}
+use Rattle.fields.specs.File.{withinLimit}
+use Rattle.fields.specs.Le.{leBytes, put}
+use Rattle.demuxer.specs.Head.{headAt, isTrailer, chunkHead}
+use Rattle.demuxer.specs.Position.{start}
+use Rattle.demuxer.specs.declared.head.Head.the-variants as head
+use Rattle.demuxer.specs.declared.position.Position.{Position}
+use Rattle.demuxer.proofs.Heads.{head-out}
+use Rattle.demuxer.proofs.Suffixes.{chunk-suffix}
+use Rattle.chunk_index.specs.Entry.{entryLen, entry, tableBytes}
+use Rattle.chunk_index.specs.Index.{recorded, records, tagsKnown, fileWalk, indexOf, builtFrom, buildOf, counted, countsFrom, summaryOf}
+use Rattle.chunk_index.specs.Sentences.{tagged, EndsIn, IndexSentences}
+use Rattle.chunk_index.specs.Steps.{indexedAt}
+use Rattle.chunk_index.specs.Walk.{Kind, frame, sound, Stop, ranOut, trailer, unknownTag, Walk, stop, chunk, walk, past}
+use Rattle.chunk_index.specs.declared.entry.ChunkIndexEntry.{ChunkIndexEntry}
+use Rattle.chunk_index.specs.declared.index.ChunkCounts.{ChunkCounts}
+use Rattle.chunk_index.specs.declared.index.Indexed.the-variants as indexed
+use Rattle.chunk_index.proofs.Entries.{length-table}
+use Rattle.chunk_index.proofs.Folds.{step-means}
+
+-- ---- a chunk that is cut
+
+module _ (file part : List ℕ) (p : Position) (tag size : ℕ) (e : EndsIn file p tag size part) where
+  ends-at : length file ≡ p .cursor + 8 + length part
+  ends-at =
+      let c = e .cursor in
+      let l : length file ≡ length (e .before) + (8 + length part) = ap length (e .is) ∙ (unfold leBytes in simp length-append (omega arith)) in
+      omega arith
+
+  head-is : tag < 4294967296 → isTrailer tag size ≡ false → headAt file (p .cursor) ≡ chunkHead tag size
+  head-is t n = let h = e .held in (λ i. headAt (e .is i) (e .cursor i)) ∙ chunk-suffix (e .before) part tag size (omega arith) (omega arith) n
+
+  -- nothing is recorded after it
+  no-more : (q : Position) → records q (walk file (p .cursor + (8 + size))) ≡ []
+  unfolding indexedAt
+  no-more q =
+      let l = ends-at in
+      let c = e .cut in
+      step-means file (p .cursor + (8 + size)) indexed.Stop (rw (head-out file (p .cursor + (8 + size)) (omega arith))) .none q
+
+cut-frame : (file part : List ℕ) (p : Position) (size : ℕ) → EndsIn file p videoTag size part
+    → records p (walk file (p .cursor)) ≡ record { tag = videoTag; position = p } ∷ []
+unfolding indexedAt
+cut-frame file part p size e =
+    step-means file (p .cursor) (indexed.Frame size) (rw (head-is file part p videoTag size e (omega arith) refl)) .more p
+    ∙ ap (λ (es : List ChunkIndexEntry). entry frame p ∷ es) (no-more file part p videoTag size e _)
+
+module _ (file part : List ℕ) (p : Position) (size : ℕ) (e : EndsIn file p audioTag size part) where
+  cut-sound : min 8 size ≤ length part → records p (walk file (p .cursor)) ≡ record { tag = audioTag; position = p } ∷ []
+  unfolding indexedAt
+  cut-sound h =
+      let l = ends-at file part p audioTag size e in
+      step-means file (p .cursor) (indexed.Sound size)
+      (rw (head-is file part p audioTag size e (omega arith) refl, le-leb (p .cursor + 8 + min 8 size) (length file) (omega arith)))
+      .more p
+      ∙ ap (λ (es : List ChunkIndexEntry). entry sound p ∷ es) (no-more file part p audioTag size e _)
+
+  lost-sound : length part < min 8 size → records p (walk file (p .cursor)) ≡ []
+  unfolding indexedAt
+  lost-sound h =
+      let l = ends-at file part p audioTag size e in
+      step-means file (p .cursor) indexed.Stop
+      (rw (head-is file part p audioTag size e (omega arith) refl, lt-leb (p .cursor + 8 + min 8 size) (length file) (omega arith)))
+      .none p
+
+-- ---- the summary
+
+-- counts on top of those of the records
+abbrev onTop : ChunkCounts → List ChunkIndexEntry → ChunkCounts
+onTop s es = record { frames = s .frames + tagged videoTag es; blocks = s .blocks + tagged audioTag es }
+
+counts-are : (s : ChunkCounts) (p : Position) (w : Walk) → countsFrom s w ≡ onTop s (records p w)
+unfolding countsFrom records tagged
+counts-are s p (stop e) = λ i. record { frames = sym (add-zero (s .frames)) i; blocks = sym (add-zero (s .blocks)) i }
+counts-are s p (chunk kind payload missing rest) =
+    go (recorded kind payload missing) kind (λ k. counts-are (counted k s) (past p k payload missing) rest)
+  where
+    go : (b : Bool) (k : Kind) → ((k : Kind) → countsFrom (counted k s) rest ≡ onTop (counted k s) (records (past p k payload missing) rest))
+        → cond b (countsFrom (counted k s) rest) s ≡ onTop s (cond b (entry k p ∷ records (past p k payload missing) rest) [])
+    go false k later = λ i. record { frames = sym (add-zero (s .frames)) i; blocks = sym (add-zero (s .blocks)) i }
+    go true frame later =
+        let es = records (past p frame payload missing) rest in
+        let f : s .frames + 1 + tagged videoTag es ≡ s .frames + suc (tagged videoTag es) = omega arith in
+        later frame ∙ (λ i. record { frames = f i; blocks = s .blocks + tagged audioTag es })
+    go true sound later =
+        let es = records (past p sound payload missing) rest in
+        let f : s .blocks + 1 + tagged audioTag es ≡ s .blocks + suc (tagged audioTag es) = omega arith in
+        later sound ∙ (λ i. record { frames = s .frames + tagged videoTag es; blocks = f i })
+
+summary-counts : (file : List ℕ)
+    → summaryOf file ≡ andThen (indexOf file) (λ es. accepted (record { frames = tagged videoTag es; blocks = tagged audioTag es }))
+unfolding summaryOf indexOf
+summary-counts file = go (withinLimit file) (tagsKnown 316 (fileWalk file))
+  where
+    es : List ChunkIndexEntry
+    es = records start (fileWalk file)
+
+    zero-top : onTop (record { frames = 0; blocks = 0 }) es ≡ record { frames = tagged videoTag es; blocks = tagged audioTag es }
+    zero-top =
+        let f : 0 + tagged videoTag es ≡ tagged videoTag es = omega arith in
+        let b : 0 + tagged audioTag es ≡ tagged audioTag es = omega arith in
+        λ i. record { frames = f i; blocks = b i }
+
+    go : (b : Bool) (known : Answer Unit)
+        → ask b 10 0 (andThen known (λ _. accepted (countsFrom (record { frames = 0; blocks = 0 }) (fileWalk file))))
+        ≡ andThen (ask b 10 0 (andThen known (λ _. accepted es))) (λ es. accepted (record { frames = tagged videoTag es; blocks = tagged audioTag es }))
+    go false known = refl
+    go true (refused r) = refl
+    go true (accepted u) = ap accepted (counts-are (record { frames = 0; blocks = 0 }) start (fileWalk file) ∙ zero-top)
+
+-- ---- the table
+
+-- what was built of records, where the table has room for them
+fitting : List ℕ → Answer (List ChunkIndexEntry) → Answer (List ChunkIndexEntry)
+fitting table found = andThen found (λ es. ask (leb (entryLen * length es) (length table)) 40 0 (accepted es))
+
+record Filled (found : Answer (List ChunkIndexEntry)) (table : List ℕ) (n : ℕ) : Type 0 where
+  entries : List ChunkIndexEntry
+  indexed-as : found ≡ accepted entries
+  count-is : n ≡ length entries
+  table-is : builtFrom table (fitting table found) .table ≡ put table 0 (tableBytes entries)
+
+filled : (found : Answer (List ChunkIndexEntry)) (table : List ℕ) (n : ℕ) → builtFrom table (fitting table found) .answer ≡ accepted n
+    → Filled found table n
+unfolding fitting
+filled (refused r) table n e = never (sym e)
+filled (accepted es) table n e = go _ refl e
+  where
+    go : (b : Bool) → leb (entryLen * length es) (length table) ≡ b
+        → builtFrom table (ask b 40 0 (accepted es)) .answer ≡ accepted n → Filled (accepted es) table n
+    go true t e = record { entries = es; indexed-as = refl; count-is = sym (accepted-same e); table-is = unfold fitting in rw t }
+    go false t e = never (sym e)
+
+built : (file table : List ℕ) (n : ℕ) → buildOf file table .answer ≡ accepted n → Filled (indexOf file) table n
+unfolding buildOf fitting
+built file table n e = filled (indexOf file) table n e
+
+after-stay : (file table : List ℕ) (n : ℕ) → buildOf file table .answer ≡ accepted n
+    → drop (entryLen * n) (buildOf file table .table) ≡ drop (entryLen * n) table
+unfolding buildOf put fitting
+after-stay file table n e =
+    let f = built file table n e in
+    let c = f .count-is in
+    let l : length (tableBytes (f .entries)) ≡ entryLen * n = length-table (f .entries) ∙ omega arith in
+    let z : 0 + length (tableBytes (f .entries)) ≡ entryLen * n = omega arith in
+    ap (drop (entryLen * n)) (f .table-is)
+    ∙ drop-at (tableBytes (f .entries)) (drop (0 + length (tableBytes (f .entries))) table) (entryLen * n) l
+    ∙ ap (λ (k : ℕ). drop k table) z
+
+gives-back : (file table : List ℕ) (r : Refusal) → buildOf file table .answer ≡ refused r → buildOf file table .table ≡ table
+unfolding buildOf
+gives-back file table r = go (andThen (indexOf file) (λ es. ask (leb (entryLen * length es) (length table)) 40 0 (accepted es)))
+  where
+    go : (a : Answer (List ChunkIndexEntry)) → builtFrom table a .answer ≡ refused r → builtFrom table a .table ≡ table
+    go (accepted es) h = never h
+    go (refused q) h = refl
+
+-- ---- the numbers
+
+module _ (numbers : List ℕ) (n : oneOf numbers 31 ≡ true) where
+  known-by : (at : ℕ) (w : Walk) → RefusedBy numbers (tagsKnown at w)
+  unfolding tagsKnown
+  known-by at (stop ranOut) = tt
+  known-by at (stop (trailer k)) = tt
+  known-by at (stop unknownTag) = n
+  known-by at (chunk kind payload missing rest) = go (recorded kind payload missing) _ (known-by (at + (8 + (length payload + missing))) rest)
+    where
+      go : (b : Bool) (later : Answer Unit) → RefusedBy numbers later → RefusedBy numbers (cond b later (accepted tt))
+      go true later h = h
+      go false later h = tt
+
+index-by : (file : List ℕ) → RefusedBy (10 ∷ 31 ∷ 40 ∷ []) (indexOf file)
+unfolding indexOf
+index-by file =
+    asked-by (10 ∷ 31 ∷ 40 ∷ []) (withinLimit file) 10 0 _ refl
+    (then-by (10 ∷ 31 ∷ 40 ∷ []) (tagsKnown 316 (fileWalk file)) _ (known-by (10 ∷ 31 ∷ 40 ∷ []) refl 316 (fileWalk file)) (λ u. tt))
+
+built-by : (table : List ℕ) (a : Answer (List ChunkIndexEntry)) → RefusedBy (10 ∷ 31 ∷ 40 ∷ []) a
+    → RefusedBy (10 ∷ 31 ∷ 40 ∷ []) (builtFrom table a .answer)
+built-by table (accepted es) h = tt
+built-by table (refused r) h = h
+
+build-by : (file table : List ℕ) → RefusedBy (10 ∷ 31 ∷ 40 ∷ []) (buildOf file table .answer)
+unfolding buildOf
+build-by file table =
+    let fits : List ChunkIndexEntry → Answer (List ChunkIndexEntry) =
+    λ es. ask (leb (entryLen * length es) (length table)) 40 0 (accepted es) in
+    built-by table (andThen (indexOf file) fits)
+    (then-by (10 ∷ 31 ∷ 40 ∷ []) (indexOf file) fits (index-by file)
+    (λ es. asked-by (10 ∷ 31 ∷ 40 ∷ []) (leb (entryLen * length es) (length table)) 40 0 (accepted es) refl tt))
+
+pub index-sentences : IndexSentences
+unfolding summaryOf
+index-sentences =
+    record {
+      cut-frame = cut-frame;
+      cut-sound = cut-sound;
+      lost-sound = lost-sound;
+      summary-counts = summary-counts;
+      count = λ file table n e. let f = built file table n e in (f .entries, f .indexed-as, f .count-is);
+      after-stay = after-stay;
+      gives-back = gives-back;
+      numbers = build-by;
+      summary-numbers =
+          λ file.
+          asked-by (10 ∷ 31 ∷ []) (withinLimit file) 10 0 _ refl
+          (then-by (10 ∷ 31 ∷ []) (tagsKnown 316 (fileWalk file)) _ (known-by (10 ∷ 31 ∷ []) refl 316 (fileWalk file)) (λ u. tt));
+    }

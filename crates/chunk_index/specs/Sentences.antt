@@ -1,0 +1,51 @@
+-- 01's sentences about index and summary, a second time: by the bytes of a chunk that is cut, and by the records. Assumes nothing.
+use mathlib.Core.Path.{_≡_}
+use Prim.Native.Nat.{ℕ, suc, _*_, _≤_, _<_, min}
+use mathlib.Core.Bool.{cond}
+use mathlib.Core.List.{List, [], _∷_, _++_}
+use lib.Dec.{eqb}
+use lib.ListN.{length, drop}
+use Rattle.chunk.specs.Chunk.{videoTag, audioTag}
+use Rattle.error.specs.Answer.{accepted, andThen}
+use Rattle.error.specs.Sentences.{GivesBack, RefusedBy}
+use Rattle.demuxer.specs.Sentences.{headed, longest}
+use Rattle.demuxer.specs.declared.position.Position.{Position}
+use Rattle.chunk_index.specs.Entry.{entryLen}
+use Rattle.chunk_index.specs.Index.{records, indexOf, buildOf, summaryOf}
+use Rattle.chunk_index.specs.Walk.{walk}
+use Rattle.chunk_index.specs.declared.entry.ChunkIndexEntry.{ChunkIndexEntry}
+
+-- how many records have a tag
+unfoldable pub tagged : ℕ → List ChunkIndexEntry → ℕ
+tagged tag [] = 0
+tagged tag (e ∷ es) = cond (eqb (e .tag) tag) (suc (tagged tag es)) (tagged tag es)
+
+-- the file ends in a chunk at a position: its tag and length, and a part of its payload
+pub record EndsIn (file : List ℕ) (p : Position) (tag size : ℕ) (part : List ℕ) : Type 0 where
+  pub before : List ℕ
+  pub cursor : p .cursor ≡ length before
+  pub is : file ≡ before ++ headed tag size part
+  pub held : size ≤ longest
+  pub cut : length part < size
+
+pub record IndexSentences : Type 0 where
+  -- "A frame is recorded though its body is cut;"
+  pub cut-frame : (file part : List ℕ) (p : Position) (size : ℕ) → EndsIn file p videoTag size part
+      → records p (walk file (p .cursor)) ≡ record { tag = videoTag; position = p } ∷ []
+  -- "sound only if min(8, length) payload bytes are there."
+  pub cut-sound : (file part : List ℕ) (p : Position) (size : ℕ) → EndsIn file p audioTag size part → min 8 size ≤ length part
+      → records p (walk file (p .cursor)) ≡ record { tag = audioTag; position = p } ∷ []
+  pub lost-sound : (file part : List ℕ) (p : Position) (size : ℕ) → EndsIn file p audioTag size part → length part < min 8 size
+      → records p (walk file (p .cursor)) ≡ []
+  -- "A summary (added) of a file gives frames and blocks as counts of the records its index walk makes; 10, then 31, as there."
+  pub summary-counts : (file : List ℕ)
+      → summaryOf file ≡ andThen (indexOf file) (λ es. accepted (record { frames = tagged videoTag es; blocks = tagged audioTag es }))
+  -- "The answer is their count; bytes after them stay."
+  pub count : (file table : List ℕ) (n : ℕ) → buildOf file table .answer ≡ accepted n
+      → (es : List ChunkIndexEntry) × (indexOf file ≡ accepted es) × (n ≡ length es)
+  pub after-stay : (file table : List ℕ) (n : ℕ) → buildOf file table .answer ≡ accepted n
+      → drop (entryLen * n) (buildOf file table .table) ≡ drop (entryLen * n) table
+  -- a refusal gives the table back; the numbers are 10, 31 and, for the table, 40
+  pub gives-back : (file : List ℕ) → GivesBack (λ table. buildOf file table .answer) (λ table. buildOf file table .table)
+  pub numbers : (file table : List ℕ) → RefusedBy (10 ∷ 31 ∷ 40 ∷ []) (buildOf file table .answer)
+  pub summary-numbers : (file : List ℕ) → RefusedBy (10 ∷ 31 ∷ []) (summaryOf file)
