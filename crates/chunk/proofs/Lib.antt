@@ -1,3 +1,4 @@
 pub mod Chunks
 pub mod Interleaves
 pub mod Tags
+pub mod Sentences

@@ -1,3 +1,4 @@
 pub mod Chunk
 pub mod Interleave
 pub mod Tags
+pub mod Sentences

@@ -1,3 +1,4 @@
 pub mod Header
 pub mod WaveFormat
 pub mod Preamble
+pub mod Sentences

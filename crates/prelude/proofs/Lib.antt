@@ -5,3 +5,4 @@ pub mod Stored
 pub mod Local
 pub mod BuiltLaws
 pub mod Tags
+pub mod Sentences

@@ -3,3 +3,4 @@ pub mod Prelude
 pub mod Built
 pub mod Stores
 pub mod Tags
+pub mod Sentences

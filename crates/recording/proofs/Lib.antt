@@ -8,3 +8,4 @@ pub mod Lists
 pub mod CheckParts
 pub mod Writes
 pub mod Together
+pub mod Sentences

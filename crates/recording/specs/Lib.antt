@@ -5,3 +5,4 @@ pub mod Check
 pub mod CheckSteps
 pub mod Written
 pub mod Together
+pub mod Sentences

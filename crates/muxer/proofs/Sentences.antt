@@ -1,0 +1,161 @@
+-- 01's sentences about the three writing calls hold: each call is an outcome of its questions, and what an accepted one leaves is a law of
+-- its own. Assumes nothing.
+use mathlib.Core.Path.{_≡_, refl, ap, _∙_}
+use mathlib.Core.Bool.{Bool, true, false, not, cond}
+use mathlib.Core.List.{List, [], _∷_}
+use Prim.Native.Nat.{ℕ, _+_, min}
+use native.Mathlib.Omega.{arith}
+use lib.Dec.{leb, eqb}
+use lib.ListN.{length}
+use Rattle.error.specs.Answer.{Answer, accepted, refused, ask}
+use Rattle.error.specs.Sentences.{oneOf, RefusedBy}
+use Rattle.muxer.specs.Sentences.{Lent, left, RefusedAt, PacketAdded, WriteSentences}
+use Rattle.muxer.specs.Writer.{outcome, fits, hasPrelude, packetBytes, askOpen, headerQuestions, packetQuestions, trailerQuestions, headerCall, packetCall, trailerCall}
+use Rattle.muxer.specs.declared.Writer.{Writer}
+use Rattle.muxer.proofs.Writes.{header-refused, packet-refused, trailer-refused, header-accepted, packet-accepted, trailer-accepted}
+
+-- ---- questions with one place
+
+-- of questions: each number is one of these, each place is this one
+record Asks (numbers : List ℕ) (place : ℕ) (a : Answer Unit) : Type 0 where
+  by : RefusedBy numbers a
+  at : RefusedAt place a
+
+none : (numbers : List ℕ) (place : ℕ) → Asks numbers place (accepted tt)
+none numbers place = record { by = tt; at = tt }
+
+asks : (numbers : List ℕ) (place : ℕ) (b : Bool) (number : ℕ) (rest : Answer Unit) → oneOf numbers number ≡ true → Asks numbers place rest
+    → Asks numbers place (ask b number place rest)
+asks numbers place true number rest n r = r
+asks numbers place false number rest n r = record { by = n; at = refl }
+
+opens : (numbers : List ℕ) (w : Writer) (rest : Answer Unit) → oneOf numbers 51 ≡ true → oneOf numbers 55 ≡ true → oneOf numbers 56 ≡ true
+    → Asks numbers (w .written) rest → Asks numbers (w .written) (askOpen w rest)
+opens numbers w rest a b c r =
+    let p = w .written in
+    let third : Answer Unit = ask (hasPrelude w) 56 p rest in
+    asks numbers p (w .begun) 51 (ask (not (w .ended)) 55 p third) a
+    (asks numbers p (not (w .ended)) 55 third b (asks numbers p (hasPrelude w) 56 rest c r))
+
+header-asks : (w : Writer) (room : ℕ) → Asks (50 ∷ 55 ∷ 56 ∷ 54 ∷ []) (w .written) (headerQuestions w room)
+unfolding headerQuestions
+header-asks w room =
+    let ns : List ℕ = 50 ∷ 55 ∷ 56 ∷ 54 ∷ [] in
+    let p = w .written in
+    let last : Answer Unit = ask (fits 316 room) 54 p (accepted tt) in
+    let third : Answer Unit = ask (hasPrelude w) 56 p last in
+    asks ns p (not (w .begun)) 50 (ask (not (w .ended)) 55 p third) refl
+    (asks ns p (not (w .ended)) 55 third refl
+    (asks ns p (hasPrelude w) 56 last refl (asks ns p (fits 316 room) 54 (accepted tt) refl (none ns p))))
+
+packet-asks : (w : Writer) (size stream room : ℕ)
+    → Asks (51 ∷ 55 ∷ 56 ∷ 52 ∷ 53 ∷ 54 ∷ []) (w .written) (packetQuestions w size stream room)
+unfolding packetQuestions
+packet-asks w size stream room =
+    let ns : List ℕ = 51 ∷ 55 ∷ 56 ∷ 52 ∷ 53 ∷ 54 ∷ [] in
+    let p = w .written in
+    let f : Bool = fits (w .written + (8 + size)) room in
+    let last : Answer Unit = ask f 54 p (accepted tt) in
+    let second : Answer Unit = ask (leb stream 1) 53 p last in
+    opens ns w (ask (leb size 4294967295) 52 p second) refl refl refl
+    (asks ns p (leb size 4294967295) 52 second refl
+    (asks ns p (leb stream 1) 53 last refl (asks ns p f 54 (accepted tt) refl (none ns p))))
+
+trailer-asks : (w : Writer) (room : ℕ) → Asks (51 ∷ 55 ∷ 56 ∷ 54 ∷ []) (w .written) (trailerQuestions w room)
+unfolding trailerQuestions
+trailer-asks w room =
+    let ns : List ℕ = 51 ∷ 55 ∷ 56 ∷ 54 ∷ [] in
+    let f : Bool = fits (w .written + 8) room in
+    opens ns w (ask f 54 (w .written) (accepted tt)) refl refl refl (asks ns (w .written) f 54 (accepted tt) refl (none ns (w .written)))
+
+-- ---- an outcome answers as its questions do
+
+outcome-asks : (numbers : List ℕ) (place : ℕ) (q : Answer Unit) (w : Writer) (buf : List ℕ) (next : Writer) (after : List ℕ)
+    → Asks numbers place q → Asks numbers place (outcome q w buf next after .answer)
+outcome-asks numbers place (accepted u) w buf next after a = record { by = tt; at = tt }
+outcome-asks numbers place (refused r) w buf next after a = a
+
+header-said : (l : Lent) → Asks (50 ∷ 55 ∷ 56 ∷ 54 ∷ []) (l .writer .written) (headerCall (l .writer) (l .buffer) .answer)
+unfolding headerCall
+header-said l = outcome-asks _ _ (headerQuestions (l .writer) (length (l .buffer))) (l .writer) (l .buffer) _ _ (header-asks (l .writer) (length (l .buffer)))
+
+packet-said : (payload : List ℕ) (stream : ℕ) (l : Lent)
+    → Asks (51 ∷ 55 ∷ 56 ∷ 52 ∷ 53 ∷ 54 ∷ []) (l .writer .written) (packetCall (l .writer) payload stream (l .buffer) .answer)
+unfolding packetCall
+packet-said payload stream l =
+    outcome-asks _ _ (packetQuestions (l .writer) (length payload) stream (length (l .buffer))) (l .writer) (l .buffer) _ _
+    (packet-asks (l .writer) (length payload) stream (length (l .buffer)))
+
+trailer-said : (l : Lent) → Asks (51 ∷ 55 ∷ 56 ∷ 54 ∷ []) (l .writer .written) (trailerCall (l .writer) (l .buffer) .answer)
+unfolding trailerCall
+trailer-said l =
+    outcome-asks _ _ (trailerQuestions (l .writer) (length (l .buffer))) (l .writer) (l .buffer) _ _
+    (trailer-asks (l .writer) (length (l .buffer)))
+
+same-lent : {l m : Lent} → (m .writer ≡ l .writer) × (m .buffer ≡ l .buffer) → m ≡ l
+same-lent e = λ i. record { writer = e .0 i; buffer = e .1 i }
+
+-- ---- what an accepted packet leaves
+
+at-cap : (b : Bool) (frames : ℕ) → frames ≡ 18446744073709551615 → cond b (min (frames + 1) 18446744073709551615) frames ≡ frames
+at-cap true frames h = omega arith
+at-cap false frames h = refl
+
+packet-adds : (payload : List ℕ) (stream : ℕ) (l : Lent) → packetCall (l .writer) payload stream (l .buffer) .answer ≡ accepted tt
+    → PacketAdded payload stream l (left (packetCall (l .writer) payload stream (l .buffer)))
+unfolding packetBytes
+packet-adds payload stream l e =
+    let t = packet-accepted (l .writer) payload stream (l .buffer) e in
+    let w = t .writer in
+    record {
+      file = t .file;
+      frame = λ s h. ap (λ (v : Writer). v .frames) w ∙ rw s (omega arith);
+      full = λ h. ap (λ (v : Writer). v .frames) w ∙ at-cap (eqb stream 0) (l .writer .frames) h;
+      sound = λ s. ap (λ (v : Writer). v .frames) w ∙ rw s refl;
+      settings = ap (λ (v : Writer). v .settings) w;
+      begun = ap (λ (v : Writer). v .begun) w ∙ t .passed .ready .begun;
+      ended = ap (λ (v : Writer). v .ended) w ∙ t .passed .ready .going;
+    }
+
+pub write-sentences : WriteSentences
+write-sentences =
+    record {
+      header =
+          record {
+            gives-back = λ l r e. same-lent (header-refused (l .writer) (l .buffer) e);
+            numbered = λ l. header-said l .by;
+            placed = λ l. header-said l .at;
+          };
+      packet =
+          λ payload stream.
+          record {
+            gives-back = λ l r e. same-lent (packet-refused (l .writer) payload stream (l .buffer) e);
+            numbered = λ l. packet-said payload stream l .by;
+            placed = λ l. packet-said payload stream l .at;
+          };
+      trailer =
+          record {
+            gives-back = λ l r e. same-lent (trailer-refused (l .writer) (l .buffer) e);
+            numbered = λ l. trailer-said l .by;
+            placed = λ l. trailer-said l .at;
+          };
+      header-added =
+          λ l e.
+          let w = header-accepted (l .writer) (l .buffer) e .writer in
+          record {
+            begun = ap (λ (v : Writer). v .begun) w;
+            written = ap (λ (v : Writer). v .written) w;
+            frames = ap (λ (v : Writer). v .frames) w;
+            settings = ap (λ (v : Writer). v .settings) w;
+          };
+      packet-added = packet-adds;
+      trailer-added =
+          λ l e.
+          let w = trailer-accepted (l .writer) (l .buffer) e .writer in
+          record {
+            ended = ap (λ (v : Writer). v .ended) w;
+            written = ap (λ (v : Writer). v .written) w;
+            frames = ap (λ (v : Writer). v .frames) w;
+            settings = ap (λ (v : Writer). v .settings) w;
+          };
+    }
