@@ -1,5 +1,6 @@
 -- Document 01's ten cases hold: antt computes them. Assumes nothing.
 use mathlib.Core.Path.{refl}
+use borrow.Author.Tests.{ne-eqb}
 use Rattle.fields.specs.Le.{le, leBytes}
 use Rattle.duration.specs.Duration.{packedOf, runLength, ofSeconds}
 use Rattle.chunk.specs.Interleave.{interleaveFrom}
@@ -28,11 +29,12 @@ cases =
       one = refl;
       two = refl;
       three-million = refl;
-      three-needs-one = refl;
+      three-needs-one = λ micros n. rw (ne-eqb micros 1 n);
       three-more = refl;
+      three-needs-none = λ micros n. rw (ne-eqb micros 0 n);
       three-refused = refl;
       four = refl;
-      four-needs = refl;
+      four-needs = λ average n. rw (ne-eqb average 4294967295 n);
       five-none = refl;
       five-v = refl;
       five-va = refl;
@@ -44,6 +46,7 @@ cases =
       size = refl;
       indexed = refl;
       seven = refl;
+      seven-stamp = refl;
       eight-walker = refl;
       eight-stamp = refl;
       nine-packet = refl;
