@@ -9,11 +9,18 @@ use Rattle.fields.specs.Le.{put}
 use Rattle.fields.proofs.Laws.{put-put, length-put}
 use Rattle.lines.specs.Written.{Written}
 
+pub same-size : {xs ys word : List ℕ} {off end : ℕ} → Written xs off word ys end → length ys ≡ length xs
+same-size {xs} {ys} {word} {off} {end} p = ap length (p .bytes) ∙ length-put xs off word (omega (arith, p .ends, p .fits))
+
+-- a word ends within the buffer that holds it
+pub ends-within : {xs ys word : List ℕ} {off end : ℕ} → Written xs off word ys end → end ≤ length ys
+ends-within p = rw (same-size p) (p .fits)
+
 -- a word right after another is one
 pub join : {xs ys zs : List ℕ} {off m n : ℕ} {a b : List ℕ} → Written xs off a ys m → Written ys m b zs n → Written xs off (a ++ b) zs n
 join {xs} {ys} {zs} {off} {m} {n} {a} {b} p q =
     let h : off + length a ≤ length xs = omega (arith, p .ends, p .fits) in
-    let l : length ys ≡ length xs = ap length (p .bytes) ∙ length-put xs off a h in
+    let l : length ys ≡ length xs = same-size p in
     record {
       bytes = q .bytes ∙ ap (λ (k : ℕ). put ys k b) (p .ends) ∙ ap (λ (k : List ℕ). put k (off + length a) b) (p .bytes) ∙ put-put xs off a b h;
       ends = simp length-append (omega (arith, p .ends, q .ends));

@@ -42,8 +42,7 @@ returns c = let p = c .before .before in
     let s = p .before .before .before .before in
     let b = s .before .before .before .before .before in
     let f = b .before .before .before .before .before in
-    let t = f .before .before .before .before .before in
-    (
+    let t = f .before .before .before .before .before in (
       join (t .put-field .ensures .0)
           (join (f .put-field2 .ensures .0)
           (join (b .put-field3 .ensures .0) (join (s .put-field4 .ensures .0) (p .put-paired .ensures .0)))),

@@ -1,0 +1,87 @@
+// The listing of a file, as bytes in a lent buffer.
+use demuxer::walker::NextPacket;
+use demuxer::walker::Walker;
+use lines::put_chunk_line;
+use lines::put_long_line;
+use lines::put_refusal_line;
+use lines::put_totals_line;
+use recording::check::CheckResult;
+use recording::check::check;
+ghost use Prim.Native.Nat.{_+_, _≤_};
+ghost use lib.ListN.{length};
+ghost use Rattle.lines.specs.Written.{Written};
+ghost use Rattle.demuxer.specs.Position.{start};
+ghost use Rattle.chunk_index.specs.Index.{fileWalk};
+ghost use Rattle.recording.specs.Check.{checkOf};
+ghost use Rattle.listing.specs.Listing.{chunkLines, checkedLines, inputLimit, listingOf};
+ghost use Rattle.listing.specs.Room.{room, Whole};
+
+// The longest input that is listed.
+pub const INPUT_LIMIT: usize = 65_536;
+
+// A buffer of so many bytes holds every listing. A chunk takes 8 bytes or more and its line at most 86, fewer than 8 times 11; the 316
+// bytes before the chunks are room for the totals.
+pub const ROOM: usize = 11 * INPUT_LIMIT;
+
+// One line for each chunk: of the position before the read that gives its packet.
+fn put_chunk_lines(out: &mut [u8], file: &[u8]) -> usize
+    requires { ⌜ room ≤ length (now out) ⌝ }
+    requires { ⌜ length (now file) ≤ inputLimit ⌝ }
+    requires { ⌜ Whole (fileWalk (now file)) ⌝ }
+    ensures { λ r. ⌜ Written (now (out .entry)) 0 (chunkLines start (fileWalk (now (file .entry)))) (now (out .exit)) r ⌝ }
+    ensures { λ r. ⌜ r + 119 ≤ room ⌝ }
+{
+    let mut walker = Walker::new();
+    let mut at = 0;
+    loop {
+        let position = walker.position;
+        let read = walker.next_packet(file);
+        let answer = read.answer;
+        let NextPacket::Packet(packet) = answer else {
+            return at;
+        };
+        at = put_chunk_line(
+            out,
+            at,
+            packet.stream == 0,
+            position.cursor,
+            position.frames.0,
+            position.samples.0,
+            position.blocks.0,
+        );
+        walker = read.walker;
+    }
+}
+
+// The listing of a file that is not too long.
+fn put_checked_lines(out: &mut [u8], file: &[u8]) -> usize
+    requires { ⌜ room ≤ length (now out) ⌝ }
+    requires { ⌜ length (now file) ≤ inputLimit ⌝ }
+    ensures { λ r. ⌜ Written (now (out .entry)) 0 (checkedLines (now (file .entry)) (checkOf (now (file .entry)))) (now (out .exit)) r ⌝ }
+{
+    match check(file) {
+        CheckResult::Ok(totals) => {
+            let at = put_chunk_lines(out, file);
+            put_totals_line(
+                out,
+                at,
+                totals.trailer,
+                totals.frames,
+                totals.blocks,
+                totals.samples,
+                totals.paired,
+            )
+        }
+        CheckResult::Err(error) => put_refusal_line(out, 0, error.number(), error.place()),
+    }
+}
+
+// Writes the listing of an input to the front of the buffer, and answers its length.
+pub fn list(input: &[u8], lines: &mut [u8; ROOM]) -> usize
+    ensures { λ r. ⌜ Written (now (lines .entry)) 0 (listingOf (now (input .entry))) (now (lines .exit)) r ⌝ }
+{
+    if INPUT_LIMIT < input.len() {
+        return put_long_line(lines, 0);
+    }
+    put_checked_lines(lines, input)
+}
