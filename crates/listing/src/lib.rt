@@ -72,7 +72,11 @@ fn put_checked_lines(out: &mut [u8], file: &[u8]) -> usize
                 totals.paired,
             )
         }
-        CheckResult::Err(error) => put_refusal_line(out, 0, error.number(), error.place()),
+        CheckResult::Err(error) => {
+            let number = error.number();
+            let place = error.place();
+            put_refusal_line(out, 0, number, place)
+        }
     }
 }
 

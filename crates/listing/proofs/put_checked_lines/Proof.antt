@@ -52,7 +52,7 @@ returns-2 c =
     let t = c .before .before in
     let o = t .before .before .before .before .before in
     let e = sym (o .before .before .check .ensures) ∙ ap saidCheck (o .error .given .1) in
-    rw (e, ← t .before .before .number .ensures, ← t .before .place .ensures) (t .put-refusal-line .ensures .0)
+    rw (e, ← t .before .before .before .number .ensures, ← t .before .before .place .ensures) (t .put-refusal-line .ensures .0)
 
 pub put-checked-lines-spec : {M : Type 1} → statement M
 put-checked-lines-spec =
