@@ -1,5 +1,5 @@
 #!/usr/bin/env bash
-# Lists a recording: the built-in example, or the file that is named. Proves and compiles the program first, where that is due.
+# Lists a recording: examples/small.amv, or the file that is named. Proves and compiles the program first, where that is due.
 file=$(readlink -f -- "${1:-$(dirname "$0")/examples/small.amv}")
 cd "$(dirname "$0")" || exit 2
 [ -r "$file" ] || { echo "list: cannot read $1" >&2; exit 2; }
