@@ -1,4 +1,4 @@
--- Decimal digits: what they are worth, that each is a digit and none a leading zero, and how a loop makes them from the last on. Assumes nothing.
+-- Decimal digits: what they are worth, that each is a digit and none a leading zero, and how a loop makes them. Assumes nothing.
 use mathlib.Core.Path.{_≡_, refl, sym, _∙_}
 use mathlib.Core.List.{List, [], _∷_, _++_, append-assoc, append-nil}
 use Prim.Native.Nat.{ℕ, zero, suc, _+_, _-_, _*_, _^_, _/_, _%_, _≤_, _<_}
@@ -62,7 +62,9 @@ unfolding digits Digits
 digits-digits zero n = tt
 digits-digits (suc k) n =
     elim (decLe 10 n) [
-      | yes l ↦ rw (long k n (omega arith)) (digits-last (digits k (n / 10)) (48 + n % 10) (digits-digits k (n / 10)) (omega arith) (omega arith))
+      | yes l ↦
+          rw (long k n (omega arith))
+          (digits-last (digits k (n / 10)) (48 + n % 10) (digits-digits k (n / 10)) (omega arith) (omega arith))
       | no l ↦ rw (short k n (omega arith)) (omega arith, omega arith, tt)
     ]
 

@@ -22,7 +22,11 @@ join {xs} {ys} {zs} {off} {m} {n} {a} {b} p q =
     let h : off + length a ≤ length xs = omega (arith, p .ends, p .fits) in
     let l : length ys ≡ length xs = same-size p in
     record {
-      bytes = q .bytes ∙ ap (λ (k : ℕ). put ys k b) (p .ends) ∙ ap (λ (k : List ℕ). put k (off + length a) b) (p .bytes) ∙ put-put xs off a b h;
+      bytes =
+          q .bytes
+          ∙ ap (λ (k : ℕ). put ys k b) (p .ends)
+          ∙ ap (λ (k : List ℕ). put k (off + length a) b) (p .bytes)
+          ∙ put-put xs off a b h;
       ends = simp length-append (omega (arith, p .ends, q .ends));
       fits = omega (arith, q .fits);
     }

@@ -26,7 +26,8 @@ pub long-listed : (input : List ℕ) → inputLimit < length input → listingOf
 unfolding listingOf
 long-listed input h = rw (lt-leb (length input) inputLimit h)
 
-pub checked-listed : (input : List ℕ) (x : Answer Totals) → length input ≤ inputLimit → checkOf input ≡ x → listingOf input ≡ checkedLines input x
+pub checked-listed : (input : List ℕ) (x : Answer Totals) → length input ≤ inputLimit → checkOf input ≡ x
+    → listingOf input ≡ checkedLines input x
 unfolding listingOf
 checked-listed input x h e = rw (le-leb (length input) inputLimit h, e)
 

@@ -91,12 +91,13 @@ module _ (file : List ℕ) (w : Walker) (bytes : Bytes file) (fits : length file
   on-head head.Unknown e = ap (chunkLines (w .position)) (walked head.Unknown e)
   on-head (head.Video size) e =
       let v = walked (head.Video size) e in
+      let rest = walk file (at + (8 + size)) in
       let l = whole-at frame size (head-there file at (λ x. let z : _≡_ {A = ℕ} 0 1 = cc in omega arith)) v in
       rw (le-leb (at + 8 + size) (length file) (l .0))
       (record {
         line =
             ap (chunkLines (w .position)) v
-            ∙ ap (λ (n : ℕ). lineAt (w .position) frame ++ chunkLines (pastFrame (w .position) n) (walk file (at + (8 + size)))) (payload-size file at size);
+            ∙ ap (λ (n : ℕ). lineAt (w .position) frame ++ chunkLines (pastFrame (w .position) n) rest) (payload-size file at size);
         on = omega arith;
         stands =
             record {
@@ -110,15 +111,15 @@ module _ (file : List ℕ) (w : Walker) (bytes : Bytes file) (fits : length file
       })
   on-head (head.Audio size) e =
       let v = walked (head.Audio size) e in
+      let rest = walk file (at + (8 + size)) in
       let l = whole-at sound size (head-there file at (λ x. let z : _≡_ {A = ℕ} 0 1 = cc in omega arith)) v in
       let payload = payloadAt file at size in
-      let n = count-le payload (bytes-take size _ (bytes-drop (at + 8) file bytes)) in
+      let count = count-le payload (bytes-take size _ (bytes-drop (at + 8) file bytes)) in
       rw (le-leb (at + 8 + size) (length file) (l .0))
       (record {
         line =
             ap (chunkLines (w .position)) v
-            ∙ ap (λ (n : ℕ). lineAt (w .position) sound ++ chunkLines (pastSound (w .position) n (countOf payload)) (walk file (at + (8 + size))))
-            (payload-size file at size);
+            ∙ ap (λ (n : ℕ). lineAt (w .position) sound ++ chunkLines (pastSound (w .position) n (countOf payload)) rest) (payload-size file at size);
         on = omega arith;
         stands =
             record {
@@ -126,7 +127,7 @@ module _ (file : List ℕ) (w : Walker) (bytes : Bytes file) (fits : length file
               whole = l .1;
               cursor-le = omega (arith, l .0);
               frames-le = omega (arith, s .frames-le);
-              samples-le = omega (arith, s .samples-le, n, payload-size file at size);
+              samples-le = omega (arith, s .samples-le, count, payload-size file at size);
               blocks-le = omega (arith, s .blocks-le);
             };
       })
@@ -147,17 +148,18 @@ pub record Listing (file out₀ out : List ℕ) (p : Position) (to : ℕ) : Type
 pub listing-starts : (file out : List ℕ) → Listing file out out start 0
 listing-starts file out = record { kept = refl; room = omega arith; ends = omega arith; rest = refl }
 
-module _ {file out₀ out : List ℕ} {p : Position} {to : ℕ} (l : Listing file out₀ out p to) (r : room ≤ length out₀) (c : p .cursor ≤ inputLimit) where
-  pub listing-ends : linesFrom file p ≡ [] → Written out₀ 0 (chunkLines start (fileWalk file)) out to
-  listing-ends e =
+module _ {file out₀ out : List ℕ} {p : Position} {to : ℕ} (l : Listing file out₀ out p to) where
+  pub listing-ends : room ≤ length out₀ → p .cursor ≤ inputLimit → linesFrom file p ≡ []
+      → Written out₀ 0 (chunkLines start (fileWalk file)) out to
+  listing-ends r c e =
       record {
         bytes = sym (put-nothing out to) ∙ ap (put out to) (sym e) ∙ l .rest;
         ends = omega (arith, l .ends, ap length e);
         fits = omega (arith, l .room);
       }
 
-  pub listing-more : {q : Position} {line after : List ℕ} {end : ℕ} → linesFrom file p ≡ line ++ linesFrom file q → p .cursor + 8 ≤ q .cursor
-      → Written out to line after end → end ≤ to + 86 → Listing file out₀ after q end
+  pub listing-more : {q : Position} {line after : List ℕ} {end : ℕ} → linesFrom file p ≡ line ++ linesFrom file q
+      → p .cursor + 8 ≤ q .cursor → Written out to line after end → end ≤ to + 86 → Listing file out₀ after q end
   listing-more {q} {line} {after} {end} e on w b =
       let rest : List ℕ = linesFrom file q in
       let h : to + length line ≤ length out = omega (arith, w .ends, w .fits) in

@@ -42,6 +42,7 @@ listingOf input = cond (leb (length input) inputLimit) (checkedLines input (chec
 -- the three kinds of listing, each with the inputs that have it
 pub record ListingIs : Type 0 where
   pub long : (input : List ℕ) → inputLimit < length input → listingOf input ≡ longLine
-  pub refusal : (input : List ℕ) (r : Refusal) → length input ≤ inputLimit → checkOf input ≡ refused r → listingOf input ≡ refusalLine (r .number) (r .place)
+  pub refusal : (input : List ℕ) (r : Refusal) → length input ≤ inputLimit → checkOf input ≡ refused r
+      → listingOf input ≡ refusalLine (r .number) (r .place)
   pub chunks : (input : List ℕ) (t : Totals) → length input ≤ inputLimit → checkOf input ≡ accepted t
       → listingOf input ≡ chunkLines start (fileWalk input) ++ totalsLine (t .trailer) (t .frames) (t .blocks) (t .samples) (t .paired)

@@ -43,7 +43,7 @@ returns c = let e = c .before .before in
           (join (o .put-number .ensures .0)
           (join (f .put-number2 .ensures .0)
           (join (s .put-number3 .ensures .0) (join (d .put-number4 .ensures .0) w)))),
-      omega (arith, w .ends, k .put-kind .ensures .1, o .put-number .ensures .1, f .put-number2 .ensures .1, s .put-number3 .ensures .1, d .put-number4 .ensures .1),
+      omega arith,
     )
 
 pub put-chunk-line-spec : {M : Type 1} → statement M

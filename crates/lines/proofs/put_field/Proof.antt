@@ -15,7 +15,10 @@ same-length : tie.Need-same-length
 same-length c = search needs
 
 returns : tie.Need-returns
-returns c = let n = c .before .before in let w = n .before .before .before .before in (join (w .put-word .ensures) (n .put-number .ensures .0), omega arith)
+returns c =
+    let n = c .before .before in
+    let w = n .before .before .before .before in
+    (join (w .put-word .ensures) (n .put-number .ensures .0), omega arith)
 
 pub put-field-spec : {M : Type 1} → statement M
 put-field-spec = tie.close (tie.spec put-word-requires put-number-requires same-length returns)

@@ -30,7 +30,7 @@ returns c = let e = c .before .before in
     let p = e .before .before .before .before .before in
     let n = p .before .before .before .before in
     let w = e .put-word .ensures in
-    (join (n .put-field .ensures .0) (join (p .put-number .ensures .0) w), omega (arith, w .ends, n .put-field .ensures .1, p .put-number .ensures .1))
+    (join (n .put-field .ensures .0) (join (p .put-number .ensures .0) w), omega arith)
 
 pub put-refusal-line-spec : {M : Type 1} → statement M
 put-refusal-line-spec =

@@ -46,7 +46,7 @@ returns c = let p = c .before .before in
       join (t .put-field .ensures .0)
           (join (f .put-field2 .ensures .0)
           (join (b .put-field3 .ensures .0) (join (s .put-field4 .ensures .0) (p .put-paired .ensures .0)))),
-      omega (arith, t .put-field .ensures .1, f .put-field2 .ensures .1, b .put-field3 .ensures .1, s .put-field4 .ensures .1, p .put-paired .ensures .1),
+      omega arith,
     )
 
 pub put-totals-line-spec : {M : Type 1} → statement M

@@ -25,7 +25,8 @@ array-share-prefix-lines : tie.Need-array-share-prefix-lines
 array-share-prefix-lines c = ends-within (c .list .ensures)
 
 slice-aggregate-write-all : tie.Need-slice-aggregate-write-all
-slice-aggregate-write-all c = sym (length-take-le (c .before .list .result) (c .before .list .last .1 .0) (ends-within (c .before .list .ensures)))
+slice-aggregate-write-all c =
+    sym (length-take-le (c .before .list .result) (c .before .list .last .1 .0) (ends-within (c .before .list .ensures)))
 
 write-all-requires : tie.Need-write-all-requires
 write-all-requires c κs = tt

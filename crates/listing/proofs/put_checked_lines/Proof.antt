@@ -16,7 +16,8 @@ enum-known-totals c = search needs
 put-chunk-lines-requires : tie.Need-put-chunk-lines-requires
 put-chunk-lines-requires c κs =
     let p = c .before .before .before .before .before .before .before .pre in
-    (p .0, (p .1, accepted-whole _ _ (sym (c .before .before .before .before .check .ensures) ∙ ap saidCheck (c .before .before .totals .given .1))))
+    let e = sym (c .before .before .before .before .check .ensures) ∙ ap saidCheck (c .before .before .totals .given .1) in
+    (p .0, (p .1, accepted-whole _ _ e))
 
 put-totals-line-requires : tie.Need-put-totals-line-requires
 put-totals-line-requires c κs = search needs

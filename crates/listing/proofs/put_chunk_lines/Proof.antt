@@ -46,8 +46,8 @@ none-left file w x (next.Err e) k m = m
 
 -- with one it is a turn
 turn : (c : tie.After-answer Inv-loop μ-loop)
-    → Turn (c .before .before .before .before .before .before .before .before .args .file .now) (c .before .before .before .before .loop .walker)
-    (c .answer .given .0 .0 .stream) (c .before .before .next-packet .result .walker)
+    → Turn (c .before .before .before .before .before .before .before .before .args .file .now)
+    (c .before .before .before .before .loop .walker) (c .answer .given .0 .0 .stream) (c .before .before .next-packet .result .walker)
 unfolding shownOf
 turn c =
     let file = c .before .before .before .before .before .before .before .before .args .file .now in
@@ -104,10 +104,9 @@ loop-less c =
 loop-again : tie.Need-loop-again Inv-loop μ-loop
 loop-again c =
     let l = c .before .before .before .before .before .before .before .before .before .before .before .loop in
-    let s = c .before .before .before .before .before .before .before .before .before .before .before .before .before .before .before in
     let t = turn (c .before .before .before .before .before .before .before) in
     let p = c .before .before .before .put-chunk-line .ensures in
-    (t .stands, listing-more (l .inv .1) (s .pre .0) (l .inv .0 .cursor-le) (t .line) (t .on) (p .0) (p .1))
+    (t .stands, listing-more (l .inv .1) (t .line) (t .on) (p .0) (p .1))
 
 pub put-chunk-lines-spec : {M : Type 1} → statement M
 put-chunk-lines-spec =
