@@ -1,53 +1,55 @@
--- What the functions cite: words put one after another, and a line that fits or does not. Assumes nothing.
-use mathlib.Core.Path.{_≡_, refl, ap, _∙_}
-use mathlib.Core.List.{List, _++_}
-use Prim.Native.Nat.{ℕ, _+_, _-_, _≤_, _<_}
+-- The three kinds of listing, and that nothing is missing of a file that the check accepts. Assumes nothing.
+use mathlib.Core.Path.{_≡_}
+use mathlib.Core.Bool.{Bool}
+use mathlib.Core.List.{List}
+use Prim.Native.Nat.{ℕ, _≤_, _<_}
 use native.Mathlib.Omega.{arith}
-use borrow.Author.Tests.{le-leb, lt-leb}
-use lib.ListN.{length, take, drop, length-append, length-drop}
-use lib.Seq.{take-all, take-at}
-use Rattle.fields.specs.Le.{put}
-use Rattle.fields.proofs.Laws.{put-put, length-put}
-use Rattle.listing.specs.Listing.{listed, Meets}
-use Rattle.listing.specs.declared.Listed.the-variants.{Len, NoRoom}
-use Rattle.listing.specs.Written.{Written}
+use borrow.Author.Tests.{le-leb, lt-leb, eqb-true}
+use lib.Dec.{eqb}
+use lib.ListN.{length}
+use Rattle.error.specs.Answer.{Answer, accepted, refused, andThen}
+use Rattle.error.proofs.Answers.{ask-passed}
+use Rattle.lines.specs.Lines.{longLine}
+use Rattle.demuxer.specs.Position.{start}
+use Rattle.demuxer.specs.declared.position.Position.{Position}
+use Rattle.prelude.specs.Prelude.{strictOf}
+use Rattle.prelude.specs.declared.prelude.AmvPrelude.{AmvPrelude}
+use Rattle.chunk_index.specs.Index.{fileWalk}
+use Rattle.chunk_index.specs.Walk.{Walk, stop, chunk, past}
+use Rattle.recording.specs.Check.{checkFrom, checkOf}
+use Rattle.recording.specs.declared.check.Totals.{Totals}
+use Rattle.recording.proofs.CheckWalks.{allPaired}
+use Rattle.listing.specs.Listing.{checkedLines, inputLimit, listingOf, ListingIs}
+use Rattle.listing.specs.Room.{Whole}
 
--- ---- words
+pub long-listed : (input : List ℕ) → inputLimit < length input → listingOf input ≡ longLine
+unfolding listingOf
+long-listed input h = rw (lt-leb (length input) inputLimit h)
 
--- a word right after another is one
-pub join : {xs ys zs : List ℕ} {off m n : ℕ} {a b : List ℕ} → Written xs off a ys m → Written ys m b zs n → Written xs off (a ++ b) zs n
-join {xs} {ys} {zs} {off} {m} {n} {a} {b} p q =
-    let h : off + length a ≤ length xs = omega (arith, p .ends, p .fits) in
-    let l : length ys ≡ length xs = ap length (p .bytes) ∙ length-put xs off a h in
+pub checked-listed : (input : List ℕ) (x : Answer Totals) → length input ≤ inputLimit → checkOf input ≡ x
+    → listingOf input ≡ checkedLines input x
+unfolding listingOf
+checked-listed input x h e = rw (le-leb (length input) inputLimit h, e)
+
+pub listing-is : ListingIs
+listing-is =
     record {
-      bytes = q .bytes ∙ ap (λ (k : ℕ). put ys k b) (p .ends) ∙ ap (λ (k : List ℕ). put k (off + length a) b) (p .bytes) ∙ put-put xs off a b h;
-      ends = simp length-append (omega (arith, p .ends, q .ends));
-      fits = omega (arith, q .fits);
+      long = long-listed;
+      refusal = λ input r. checked-listed input (refused r);
+      chunks = λ input t. checked-listed input (accepted t);
     }
 
-pub same : {xs ys a b : List ℕ} {off n : ℕ} → Written xs off a ys n → a ≡ b → Written xs off b ys n
-same p e = rw e at p
+whole-walk : (p : Position) (paired : Bool) (w : Walk) (t : Totals) → checkFrom p paired w ≡ accepted t → Whole w
+unfolding checkFrom Whole
+whole-walk p paired (stop s) t e = tt
+whole-walk p paired (chunk kind payload missing rest) t e =
+    let a = ask-passed (eqb missing 0) 60 (p .cursor) _ e in
+    (eqb-true missing 0 (a .0), whole-walk (past p kind payload missing) paired rest t (a .1))
 
--- a word at the front is what is read there
-pub front : {xs ys a : List ℕ} {n : ℕ} → Written xs 0 a ys n → take n ys ≡ a
-unfolding put
-front {xs} {ys} {a} {n} p = ap (λ (k : List ℕ). take n k) (p .bytes) ∙ take-at a _ n (omega (arith, p .ends))
-
-pub front-length : {xs ys a : List ℕ} {n : ℕ} → Written xs 0 a ys n → n ≡ length (take n ys)
-front-length p = rw (front p) (omega (arith, p .ends))
-
--- what a part of an array up to its end holds
-pub tail : (xs : List ℕ) (len from : ℕ) → length xs ≡ len → take (len - from) (drop from xs) ≡ drop from xs
-tail xs len from h = take-all (len - from) (drop from xs) (simp length-drop (omega arith))
-
--- ---- a line
-
-pub no-room : (text buf : List ℕ) → length buf < length text → Meets (listed text buf) NoRoom buf
-unfolding listed
-no-room text buf h = rw (lt-leb (length text) (length buf) h) (record { answer = refl; buffer = refl })
-
-pub room : {text buf after : List ℕ} {len : ℕ} → Written buf 0 text after len → Meets (listed text buf) (Len len) after
-unfolding listed
-room {text} {buf} {after} {len} p =
-    rw (le-leb (length text) (length buf) (omega (arith, p .ends, p .fits)))
-    (record { answer = ap Len (omega (arith, p .ends)); buffer = p .bytes })
+pub accepted-whole : (file : List ℕ) (t : Totals) → checkOf file ≡ accepted t → Whole (fileWalk file)
+unfolding checkOf
+accepted-whole file t e = go (strictOf file) e
+  where
+    go : (x : Answer AmvPrelude) → andThen x (λ _. checkFrom start (allPaired file) (fileWalk file)) ≡ accepted t → Whole (fileWalk file)
+    go (accepted p) q = whole-walk start (allPaired file) (fileWalk file) t q
+    go (refused r) q = let z : _≡_ {A = ℕ} 0 1 = cc in absurd (omega arith)

@@ -1,3 +1,2 @@
-pub mod Cases
-pub mod Digits
+pub mod Turns
 pub mod Laws

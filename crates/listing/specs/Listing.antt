@@ -1,102 +1,48 @@
--- The lines of a listing. Document 01, "A small file, listed". Assumes nothing.
+-- The listing of a file. Document 01, "A small file, listed". Assumes nothing.
 use mathlib.Core.Path.{_≡_}
-use Prim.Native.Nat.{ℕ, zero, suc, _+_, _/_, _%_}
-use mathlib.Core.Bool.{Bool, cond}
-use mathlib.Core.List.{List, [], _∷_, _++_}
-use lib.Dec.{leb, ltb}
+use Prim.Native.Nat.{ℕ, _≤_, _<_}
+use mathlib.Core.Bool.{true, false, cond}
+use mathlib.Core.List.{List, [], _++_}
+use lib.Dec.{leb}
 use lib.ListN.{length}
-use Rattle.fields.specs.Le.{put}
-use Rattle.listing.specs.declared.Listed.{Listed}
-use Rattle.listing.specs.declared.Listed.the-variants.{Len, NoRoom}
-
--- the last k decimal digits of n in ASCII, the highest first, without leading zeros; 0 is `0`
-unfoldable pub digits : ℕ → ℕ → List ℕ
-digits zero n = []
-digits (suc k) n = cond (ltb n 10) ((48 + n) ∷ []) (digits k (n / 10) ++ ((48 + n % 10) ∷ []))
-
--- a number as 01 writes it, "V 316 0 0 0": a u64 has at most 20 digits
-abbrev pub decimal : ℕ → List ℕ
-decimal n = digits 20 n
-
--- 01: "each line ends with one line feed", and one space stands before each word but the first
-abbrev pub spaced : List (List ℕ) → List ℕ
-spaced [] = 10 ∷ []
-spaced (word ∷ words) = 32 ∷ (word ++ spaced words)
-
--- a line: its first word and the others
-abbrev pub line : List ℕ → List (List ℕ) → List ℕ
-line first others = first ++ spaced others
-
--- `V` for a frame and `A` for a block
-abbrev pub kind : Bool → List ℕ
-kind frame = cond frame (86 ∷ []) (65 ∷ [])
+use Rattle.error.specs.Answer.{Answer, accepted, refused}
+use Rattle.error.specs.declared.Refusal.{Refusal}
+use Rattle.lines.specs.Lines.{chunkLine, totalsLine, refusalLine, longLine}
+use Rattle.demuxer.specs.Position.{start}
+use Rattle.demuxer.specs.declared.position.Position.{Position}
+use Rattle.chunk_index.specs.Walk.{Kind, frame, sound, Walk, stop, chunk, past}
+use Rattle.chunk_index.specs.Index.{fileWalk}
+use Rattle.recording.specs.Check.{checkOf}
+use Rattle.recording.specs.declared.check.Totals.{Totals}
 
 -- 01: "prints kind, offset, frames, samples, blocks before"
-unfoldable pub chunkLine : Bool → ℕ → ℕ → ℕ → ℕ → List ℕ
-chunkLine frame offset frames samples blocks =
-    line (kind frame) (decimal offset ∷ decimal frames ∷ decimal samples ∷ decimal blocks ∷ [])
+abbrev pub lineAt : Position → Kind → List ℕ
+lineAt p frame = chunkLine true (p .cursor) (p .frames .0) (p .samples .0) (p .blocks .0)
+lineAt p sound = chunkLine false (p .cursor) (p .frames .0) (p .samples .0) (p .blocks .0)
 
--- `END`, `FRAMES`, `BLOCKS`, `SAMPLES`, `PAIRED`, `NO`, `LONG`
-abbrev pub END : List ℕ
-END = 69 ∷ 78 ∷ 68 ∷ []
+-- a line for every chunk of a walk, in order
+unfoldable pub chunkLines : Position → Walk → List ℕ
+chunkLines p (stop s) = []
+chunkLines p (chunk kind payload missing rest) = lineAt p kind ++ chunkLines (past p kind payload missing) rest
 
-abbrev pub FRAMES : List ℕ
-FRAMES = 70 ∷ 82 ∷ 65 ∷ 77 ∷ 69 ∷ 83 ∷ []
+-- 01: "then the totals"; "A file the check refuses gives only one line .. `NO`, number, place."
+abbrev pub checkedLines : List ℕ → Answer Totals → List ℕ
+checkedLines file (accepted t) =
+    chunkLines start (fileWalk file) ++ totalsLine (t .trailer) (t .frames) (t .blocks) (t .samples) (t .paired)
+checkedLines file (refused r) = refusalLine (r .number) (r .place)
 
-abbrev pub BLOCKS : List ℕ
-BLOCKS = 66 ∷ 76 ∷ 79 ∷ 67 ∷ 75 ∷ 83 ∷ []
-
-abbrev pub SAMPLES : List ℕ
-SAMPLES = 83 ∷ 65 ∷ 77 ∷ 80 ∷ 76 ∷ 69 ∷ 83 ∷ []
-
-abbrev pub PAIRED : List ℕ
-PAIRED = 80 ∷ 65 ∷ 73 ∷ 82 ∷ 69 ∷ 68 ∷ []
-
-abbrev pub NO : List ℕ
-NO = 78 ∷ 79 ∷ []
-
-abbrev pub LONG : List ℕ
-LONG = 76 ∷ 79 ∷ 78 ∷ 71 ∷ []
-
--- 01: "PAIRED is Y or N"
-abbrev pub yesNo : Bool → List ℕ
-yesNo paired = cond paired (89 ∷ []) (78 ∷ [])
-
--- 01: "END's number is the trailer's offset", and `END 345 FRAMES 1 BLOCKS 1 SAMPLES 2 PAIRED Y`
-unfoldable pub totalsLine : ℕ → ℕ → ℕ → ℕ → Bool → List ℕ
-totalsLine trailer frames blocks samples paired =
-    line END
-    (decimal trailer
-    ∷ FRAMES
-    ∷ decimal frames
-    ∷ BLOCKS
-    ∷ decimal blocks
-    ∷ SAMPLES
-    ∷ decimal samples
-    ∷ PAIRED
-    ∷ yesNo paired
-    ∷ [])
-
--- 01: "A file the check refuses gives only one line .. `NO`, number, place."
-unfoldable pub refusalLine : ℕ → ℕ → List ℕ
-refusalLine number place = line NO (decimal number ∷ decimal place ∷ [])
+-- 01: "on standard input (at most 65,536 bytes)"
+abbrev pub inputLimit : ℕ
+inputLimit = 65536
 
 -- 01: "Longer input gives `NO LONG`."
-unfoldable pub longLine : List ℕ
-longLine = line NO (LONG ∷ [])
+unfoldable pub listingOf : List ℕ → List ℕ
+listingOf input = cond (leb (length input) inputLimit) (checkedLines input (checkOf input)) longLine
 
--- what a call leaves: its answer and the whole lent buffer
-pub record Outcome : Type 0 where
-  pub answer : Listed
-  pub buffer : List ℕ
-
--- a line goes to the front of the buffer where it fits; where it does not, not one byte changes
-unfoldable pub listed : List ℕ → List ℕ → Outcome
-listed text buf =
-    cond (leb (length text) (length buf)) (record { answer = Len (length text); buffer = put buf 0 text })
-    (record { answer = NoRoom; buffer = buf })
-
--- the code's answer and buffer are those
-pub record Meets (o : Outcome) (r : Listed) (after : List ℕ) : Type 0 where
-  pub answer : r ≡ o .answer
-  pub buffer : after ≡ o .buffer
+-- the three kinds of listing, each with the inputs that have it
+pub record ListingIs : Type 0 where
+  pub long : (input : List ℕ) → inputLimit < length input → listingOf input ≡ longLine
+  pub refusal : (input : List ℕ) (r : Refusal) → length input ≤ inputLimit → checkOf input ≡ refused r
+      → listingOf input ≡ refusalLine (r .number) (r .place)
+  pub chunks : (input : List ℕ) (t : Totals) → length input ≤ inputLimit → checkOf input ≡ accepted t
+      → listingOf input ≡ chunkLines start (fileWalk input) ++ totalsLine (t .trailer) (t .frames) (t .blocks) (t .samples) (t .paired)

@@ -3,7 +3,7 @@ use libc::STDOUT_FILENO;
 
 fn print_number(n: u64) {
     let mut text = [0u8; 24];
-    let len = listing::put_number(&mut text, 0, n);
+    let len = lines::put_number(&mut text, 0, n);
     io::write_all(STDOUT_FILENO, &text[..len]);
 }
 

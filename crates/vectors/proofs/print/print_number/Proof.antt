@@ -7,7 +7,7 @@ use Rattle.vectors.proofs.print.print_number.Tie as tie
 use Rattle.vectors.proofs.print.print_number.Reads as reads
 use Rattle.vectors.proofs.print.print_number.Lts as lts
 use Rattle.io.proofs.write_all.Reads as write-all-reads
-use Rattle.listing.proofs.put_number.Reads as put-number-reads
+use Rattle.lines.proofs.put_number.Reads as put-number-reads
 
 -- src/print.rt:6:35
 slice-aggregate-put-number : tie.Need-slice-aggregate-put-number

@@ -1,0 +1,140 @@
+// The lines of a listing, as bytes at an offset of a lent buffer. Each function answers where its bytes end.
+ghost use mathlib.Core.Path.{_≡_};
+ghost use mathlib.Core.List.{[], _∷_, _++_};
+ghost use Prim.Native.Nat.{_+_, _≤_};
+ghost use lib.ListN.{length, drop};
+ghost use Rattle.lines.specs.Lines.{decimal, kind, yesNo, PAIRED, spaced, chunkLine, totalsLine, refusalLine, longLine};
+ghost use Rattle.lines.specs.Written.{Written};
+
+fn put_word(out: &mut [u8], off: usize, word: &[u8]) -> usize
+    requires { ⌜ off + length (now word) ≤ length (now out) ⌝ }
+    ensures { λ r. ⌜ Written (now (out .entry)) off (now (word .entry)) (now (out .exit)) r ⌝ }
+{
+    fields::copy_in(out, off, word);
+    off + word.len()
+}
+
+// Puts the digits of a number at the end of 20 bytes, and answers where they start.
+fn put_digits(digits: &mut [u8], n: u64) -> usize
+    requires { ⌜ length (now digits) ≡ 20 ⌝ }
+    ensures { λ r. ⌜ r ≤ 20 ⌝ }
+    ensures { λ r. ⌜ drop r (now (digits .exit)) ≡ decimal n ⌝ }
+{
+    let mut i: usize = 19;
+    let mut rest = n;
+    while rest > 9 {
+        digits[i] = 48 + (rest % 10) as u8;
+        rest /= 10;
+        i -= 1;
+    }
+    digits[i] = 48 + rest as u8;
+    i
+}
+
+// A number has a space before it.
+pub fn put_number(out: &mut [u8], off: usize, n: u64) -> usize
+    requires { ⌜ off + 21 ≤ length (now out) ⌝ }
+    ensures { λ r. ⌜ Written (now (out .entry)) off (32 ∷ decimal n) (now (out .exit)) r ⌝ }
+    ensures { λ r. ⌜ r ≤ off + 21 ⌝ }
+{
+    let mut digits = [0u8; 20];
+    let from = put_digits(&mut digits, n);
+    let at = put_word(out, off, b" ");
+    put_word(out, at, &digits[from..])
+}
+
+fn put_field(out: &mut [u8], off: usize, name: &[u8], n: u64) -> usize
+    requires { ⌜ off + length (now name) + 21 ≤ length (now out) ⌝ }
+    ensures { λ r. ⌜ Written (now (out .entry)) off (now (name .entry) ++ 32 ∷ decimal n) (now (out .exit)) r ⌝ }
+    ensures { λ r. ⌜ r ≤ off + length (now (name .entry)) + 21 ⌝ }
+{
+    let at = put_word(out, off, name);
+    put_number(out, at, n)
+}
+
+fn put_kind(out: &mut [u8], off: usize, frame: bool) -> usize
+    requires { ⌜ off + 1 ≤ length (now out) ⌝ }
+    ensures { λ r. ⌜ Written (now (out .entry)) off (kind frame) (now (out .exit)) r ⌝ }
+    ensures { λ r. ⌜ r ≤ off + 1 ⌝ }
+{
+    if frame {
+        put_word(out, off, b"V")
+    } else {
+        put_word(out, off, b"A")
+    }
+}
+
+fn put_paired(out: &mut [u8], off: usize, paired: bool) -> usize
+    requires { ⌜ off + 10 ≤ length (now out) ⌝ }
+    ensures { λ r. ⌜ Written (now (out .entry)) off (spaced (PAIRED ∷ yesNo paired ∷ [])) (now (out .exit)) r ⌝ }
+    ensures { λ r. ⌜ r ≤ off + 10 ⌝ }
+{
+    if paired {
+        put_word(out, off, b" PAIRED Y\n")
+    } else {
+        put_word(out, off, b" PAIRED N\n")
+    }
+}
+
+// The line of a chunk.
+pub fn put_chunk_line(
+    out: &mut [u8],
+    off: usize,
+    frame: bool,
+    offset: u64,
+    frames: u64,
+    samples: u64,
+    blocks: u64,
+) -> usize
+    requires { ⌜ off + 86 ≤ length (now out) ⌝ }
+    ensures { λ r. ⌜ Written (now (out .entry)) off (chunkLine frame offset frames samples blocks) (now (out .exit)) r ⌝ }
+    ensures { λ r. ⌜ r ≤ off + 86 ⌝ }
+{
+    let a = put_kind(out, off, frame);
+    let b = put_number(out, a, offset);
+    let c = put_number(out, b, frames);
+    let d = put_number(out, c, samples);
+    let e = put_number(out, d, blocks);
+    put_word(out, e, b"\n")
+}
+
+// The line of the totals.
+pub fn put_totals_line(
+    out: &mut [u8],
+    off: usize,
+    trailer: u64,
+    frames: u64,
+    blocks: u64,
+    samples: u64,
+    paired: bool,
+) -> usize
+    requires { ⌜ off + 119 ≤ length (now out) ⌝ }
+    ensures { λ r. ⌜ Written (now (out .entry)) off (totalsLine trailer frames blocks samples paired) (now (out .exit)) r ⌝ }
+    ensures { λ r. ⌜ r ≤ off + 119 ⌝ }
+{
+    let a = put_field(out, off, b"END", trailer);
+    let b = put_field(out, a, b" FRAMES", frames);
+    let c = put_field(out, b, b" BLOCKS", blocks);
+    let d = put_field(out, c, b" SAMPLES", samples);
+    put_paired(out, d, paired)
+}
+
+// The only line of a file that the check refuses.
+pub fn put_refusal_line(out: &mut [u8], off: usize, number: u32, place: u64) -> usize
+    requires { ⌜ off + 45 ≤ length (now out) ⌝ }
+    ensures { λ r. ⌜ Written (now (out .entry)) off (refusalLine number place) (now (out .exit)) r ⌝ }
+    ensures { λ r. ⌜ r ≤ off + 45 ⌝ }
+{
+    let a = put_field(out, off, b"NO", number as u64);
+    let b = put_number(out, a, place);
+    put_word(out, b, b"\n")
+}
+
+// The only line of a longer input.
+pub fn put_long_line(out: &mut [u8], off: usize) -> usize
+    requires { ⌜ off + 8 ≤ length (now out) ⌝ }
+    ensures { λ r. ⌜ Written (now (out .entry)) off longLine (now (out .exit)) r ⌝ }
+    ensures { λ r. ⌜ r ≤ off + 8 ⌝ }
+{
+    put_word(out, off, b"NO LONG\n")
+}
