@@ -24,7 +24,9 @@ pub count-is : CountIs
 unfolding countOf preambleOf
 count-is payload = go (leb 8 (length payload))
   where
-    go : (b : Bool) → preambleCount (ask b 25 0 (accepted (record { state = le 4 payload 0; «decoded_sample_count» = le 4 payload 4 }))) ≡ cond b (le 4 payload 4) 0
+    go : (b : Bool)
+        → preambleCount (ask b 25 0 (accepted (record { state = le 4 payload 0; «decoded_sample_count» = le 4 payload 4 })))
+        ≡ cond b (le 4 payload 4) 0
     go true = refl
     go false = refl
 
@@ -33,7 +35,8 @@ module _ (file : List ℕ) (start size : ℕ) where
   unfolding bodyAt
   body-short e = go _ refl e
     where
-      go : (b : Bool) → leb (start + size) (length file) ≡ b → cond b (Whole start size) Short ≡ Short → leb (start + size) (length file) ≡ false
+      go : (b : Bool) → leb (start + size) (length file) ≡ b → cond b (Whole start size) Short ≡ Short
+          → leb (start + size) (length file) ≡ false
       go true p q = let z : _≡_ {A = ℕ} 0 1 = cc in absurd (omega arith)
       go false p q = p
 
@@ -70,7 +73,8 @@ module _ (file : List ℕ) (start size : ℕ) where
       ]
 
   -- and so its count is that of the preamble read from this part
-  pub count-read : {n : ℕ} {said : Answer AmvAudioPreamble} → n ≡ min (length file - start) size → said ≡ preambleOf (take n (drop start file))
+  pub count-read : {n : ℕ} {said : Answer AmvAudioPreamble}
+      → n ≡ min (length file - start) size → said ≡ preambleOf (take n (drop start file))
       → preambleCount said ≡ countOf (take size (drop start file))
   unfolding countOf
   count-read e s = ap preambleCount s ∙ rw e (ap (λ (payload : List ℕ). preambleCount (preambleOf payload)) payload-there)

@@ -25,13 +25,17 @@ enum-told : tie.Need-enum-told Inv-loop μ-loop
 enum-told c = search needs
 
 returns : tie.Need-returns Inv-loop μ-loop
-returns c = count-stop (c .before .before .before .loop .inv) (step-means _ _ _ (sym (c .before .before .indexed-at .ensures) ∙ c .enum-told .given .1))
+returns c =
+    count-stop (c .before .before .before .loop .inv)
+    (step-means _ _ _ (sym (c .before .before .indexed-at .ensures) ∙ c .enum-told .given .1))
 
 enum-told-2 : tie.Need-enum-told-2 Inv-loop μ-loop
 enum-told-2 c = search needs
 
 returns-2 : tie.Need-returns-2 Inv-loop μ-loop
-returns-2 c = count-stray (c .before .before .before .loop .inv) (step-means _ _ _ (sym (c .before .before .indexed-at .ensures) ∙ c .enum-told2 .given .1))
+returns-2 c =
+    count-stray (c .before .before .before .loop .inv)
+    (step-means _ _ _ (sym (c .before .before .indexed-at .ensures) ∙ c .enum-told2 .given .1))
 
 enum-known-size : tie.Need-enum-known-size Inv-loop μ-loop
 enum-known-size c = search needs

@@ -8,8 +8,6 @@ use Rattle.demuxer.proofs.Bodies.{count-past, count-read}
 use borrow.Author.Needs.{needs}
 use Rattle.demuxer.proofs.head.sample_count.Statement.{statement}
 use Rattle.demuxer.proofs.head.sample_count.Tie as tie
-use Rattle.demuxer.proofs.head.sample_count.Reads as reads
-use Rattle.demuxer.proofs.head.sample_count.Lts as lts
 
 returns : tie.Need-returns
 returns c = let a = c .before .before .args in sym (count-past (a .file .now) (a .start) (a .size) (c .if1 .taken))
@@ -46,14 +44,16 @@ returns-2 c =
     let a = c .before .before .before .before .before .before .before .before .args in
     let m = c .before .before .before .before .before .min in
     let e : a .start + m .result - a .start ≡ min (length (a .file .now) - a .start) (a .size) = omega (arith, m .ensures) in
-    count-read (a .file .now) (a .start) (a .size) e (sym (ap saidPreamble (c .before .preamble .given .1)) ∙ c .before .before .before .parse .ensures)
+    count-read (a .file .now) (a .start) (a .size) e
+    (sym (ap saidPreamble (c .before .preamble .given .1)) ∙ c .before .before .before .parse .ensures)
 
 returns-3 : tie.Need-returns-3
 returns-3 c =
     let a = c .before .before .before .before .before .before .before .args in
     let m = c .before .before .before .before .min in
     let e : a .start + m .result - a .start ≡ min (length (a .file .now) - a .start) (a .size) = omega (arith, m .ensures) in
-    count-read (a .file .now) (a .start) (a .size) e (sym (ap saidPreamble (c .enum-told .given .1)) ∙ c .before .before .parse .ensures)
+    count-read (a .file .now) (a .start) (a .size) e
+    (sym (ap saidPreamble (c .enum-told .given .1)) ∙ c .before .before .parse .ensures)
 
 pub sample-count-spec : {M : Type 1} → statement M
 sample-count-spec =
