@@ -5,6 +5,7 @@ use Rattle.fields.specs.Le.{le, leBytes}
 use Rattle.duration.specs.Duration.{packedOf, runLength, ofSeconds}
 use Rattle.chunk.specs.Interleave.{interleaveFrom}
 use Rattle.parse.specs.Header.{headerFields, headerSentinels}
+use Rattle.parse.specs.Preamble.{preambleOf}
 use Rattle.parse.specs.WaveFormat.{cbSizeOf, waveFormatFields, waveFormatOf, waveFormatSentinels}
 use Rattle.prelude.specs.Built.{preludeBytes}
 use Rattle.prelude.specs.Layout.{layout, askWord, askBody, askItems}
@@ -23,7 +24,7 @@ use Rattle.cases.specs.Cases.{Cases}
 use Rattle.cases.specs.Example.{E}
 
 pub cases : Cases
-unfolding le leBytes packedOf runLength ofSeconds interleaveFrom headerFields headerSentinels cbSizeOf waveFormatFields waveFormatOf waveFormatSentinels preludeBytes layout askWord askBody askItems preludeFields parseOf zeros zeroRanges validatedOf strictOf headAt countOf payloadOf shownOf inRange readFrame readSound readChunk readOf walkFor walk chunkBytes chunksBytes entryBytes tableBytes entryAt entriesFrom records tagsKnown indexOf goodEntries seekQuestions find pastLast seekOf tagsOf checkFrom checkOf E
+unfolding le leBytes packedOf runLength ofSeconds interleaveFrom headerFields headerSentinels cbSizeOf waveFormatFields waveFormatOf waveFormatSentinels preludeBytes layout askWord askBody askItems preludeFields parseOf zeros zeroRanges validatedOf strictOf preambleOf headAt countOf payloadOf shownOf inRange readFrame readSound readChunk readOf walkFor walk chunkBytes chunksBytes entryBytes tableBytes entryAt entriesFrom records tagsKnown indexOf goodEntries seekQuestions find pastLast seekOf tagsOf checkFrom checkOf E
 cases =
     record {
       one = refl;

@@ -1,5 +1,5 @@
 -- A chunk's tag, kind and header. Assumes nothing.
-use Prim.Native.Nat.{ℕ}
+use Prim.Native.Nat.{ℕ, _+_}
 use mathlib.Core.Bool.{cond}
 use mathlib.Core.List.{List, [], _∷_}
 use lib.Dec.{leb, eqb}
@@ -35,6 +35,10 @@ abbrev pub tagOf : ChunkKind → ℕ
 tagOf Video = videoTag
 tagOf Audio = audioTag
 tagOf (Other tag) = tag
+
+-- 01: "cursor moves 8 + length", from a chunk of a length to the next one
+abbrev pub advanceTotal : ℕ → ℕ
+advanceTotal size = 8 + size
 
 -- 01: "`ChunkHeader::parse` 8? 29."
 unfoldable pub chunkHeaderOf : List ℕ → Answer ChunkHeader

@@ -3,8 +3,7 @@ pub mod interleave;
 
 use error::AmvError;
 ghost use mathlib.Core.Path.{_≡_};
-ghost use Prim.Native.Nat.{_+_};
-ghost use Rattle.chunk.specs.Chunk.{kindOf, tagOf, streamTag, saidChunkHeader, chunkHeaderOf};
+ghost use Rattle.chunk.specs.Chunk.{kindOf, tagOf, streamTag, advanceTotal, saidChunkHeader, chunkHeaderOf};
 
 // Tags are numbers, little-endian, so that one comparison tells them apart.
 pub const VIDEO_CHUNK_TAG: u32 = 0x63643030; // 00dc
@@ -51,6 +50,13 @@ pub fn stream_tag(stream: u32) -> u32
     AUDIO_CHUNK_TAG
 }
 
+// The distance from a chunk of a length to the next one. No padding: an odd payload is followed at once.
+pub fn advance_total(size: u32) -> u64
+    ensures { λ r. ⌜ r ≡ advanceTotal size ⌝ }
+{
+    8 + size as u64
+}
+
 pub struct ChunkHeader {
     pub tag: u32,
     // Of the payload alone, without this header.
@@ -74,11 +80,11 @@ impl ChunkHeader {
         ChunkHeaderResult::Ok(ChunkHeader { tag, size })
     }
 
-    // The distance to the next chunk. No padding: an odd payload is followed at once.
+    // The distance from this chunk to the next one.
     pub fn advance_total(self) -> u64
-        ensures { λ r. ⌜ r ≡ 8 + self .size ⌝ }
+        ensures { λ r. ⌜ r ≡ advanceTotal (self .size) ⌝ }
     {
-        8 + (self.size as u64)
+        advance_total(self.size)
     }
 
     pub fn kind(self) -> ChunkKind

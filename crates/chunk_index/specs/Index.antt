@@ -8,6 +8,8 @@ use Rattle.error.specs.Answer.{Answer, accepted, refused, numbered, ask, andThe
 use Rattle.error.specs.Refusal.{refusalOf}
 use Rattle.fields.specs.File.{withinLimit}
 use Rattle.fields.specs.Le.{put}
+use Rattle.chunk.specs.Chunk.{advanceTotal}
+use Rattle.prelude.specs.Layout.{preludeLen}
 use Rattle.demuxer.specs.Position.{start}
 use Rattle.demuxer.specs.declared.position.Position.{Position}
 use Rattle.chunk_index.specs.Walk.{Kind, frame, sound, Stop, ranOut, trailer, unknownTag, Walk, stop, chunk, walk, past}
@@ -39,15 +41,15 @@ stopKnown at unknownTag = refused (numbered 31 at)
 unfoldable pub tagsKnown : ℕ → Walk → Answer Unit
 tagsKnown at (stop s) = stopKnown at s
 tagsKnown at (chunk kind payload missing rest) =
-    cond (recorded kind payload missing) (tagsKnown (at + (8 + (length payload + missing))) rest) (accepted tt)
+    cond (recorded kind payload missing) (tagsKnown (at + advanceTotal (length payload + missing)) rest) (accepted tt)
 
 -- "walks from 316"
 abbrev pub fileWalk : List ℕ → Walk
-fileWalk file = walk file 316
+fileWalk file = walk file preludeLen
 
 -- "File limit, 10, comes first."
 unfoldable pub indexOf : List ℕ → Answer (List ChunkIndexEntry)
-indexOf file = ask (withinLimit file) 10 0 (andThen (tagsKnown 316 (fileWalk file)) (λ _. accepted (records start (fileWalk file))))
+indexOf file = ask (withinLimit file) 10 0 (andThen (tagsKnown preludeLen (fileWalk file)) (λ _. accepted (records start (fileWalk file))))
 
 -- what the call answers, and the table as it leaves it
 pub record Built : Type 0 where
@@ -81,7 +83,7 @@ countsFrom s (chunk kind payload missing rest) = cond (recorded kind payload mis
 unfoldable pub summaryOf : List ℕ → Answer ChunkCounts
 summaryOf file =
     ask (withinLimit file) 10 0
-    (andThen (tagsKnown 316 (fileWalk file)) (λ _. accepted (countsFrom (record { frames = 0; blocks = 0 }) (fileWalk file))))
+    (andThen (tagsKnown preludeLen (fileWalk file)) (λ _. accepted (countsFrom (record { frames = 0; blocks = 0 }) (fileWalk file))))
 
 abbrev pub saidSummary : SummaryResult → Answer ChunkCounts
 saidSummary (summary.Ok s) = accepted s

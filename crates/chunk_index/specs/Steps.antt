@@ -4,6 +4,7 @@ use mathlib.Core.Bool.{cond}
 use mathlib.Core.List.{List}
 use lib.Dec.{leb}
 use lib.ListN.{length}
+use Rattle.prelude.specs.Layout.{preludeLen}
 use Rattle.demuxer.specs.Head.{headAt, countOf}
 use Rattle.demuxer.specs.Position.{pastFrame, pastSound}
 use Rattle.demuxer.specs.Read.{payloadAt}
@@ -41,7 +42,7 @@ stepAt file p = onIndexed file p (indexedAt file (p .cursor))
 -- what holds of every position of a walk from 316: each chunk took 8 bytes, each block had at most a u32 of samples
 pub record Walked (p : Position) : Type 0 where
   pub cursor-le : p .cursor ≤ 17179869184
-  pub chunks-le : 316 + 8 * (p .frames .0 + p .blocks .0) ≤ p .cursor
+  pub chunks-le : preludeLen + 8 * (p .frames .0 + p .blocks .0) ≤ p .cursor
   pub samples-le : p .samples .0 ≤ 4294967295 * p .blocks .0
 
 -- and so of the position after a step

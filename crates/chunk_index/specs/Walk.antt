@@ -2,6 +2,7 @@
 use Prim.Native.Nat.{ℕ, zero, suc, _+_, _-_}
 use mathlib.Core.List.{List}
 use lib.ListN.{length}
+use Rattle.chunk.specs.Chunk.{advanceTotal}
 use Rattle.demuxer.specs.Head.{headAt, countOf}
 use Rattle.demuxer.specs.Position.{pastFrame, pastSound}
 use Rattle.demuxer.specs.Read.{payloadAt}
@@ -27,7 +28,7 @@ pub data Walk : Type 0 where
 -- a chunk of a length at an offset, and the walk from the next one
 abbrev pub chunkAt : List ℕ → ℕ → Kind → ℕ → (ℕ → Walk) → Walk
 chunkAt file at kind size rest =
-    chunk kind (payloadAt file at size) (size - length (payloadAt file at size)) (rest (at + (8 + size)))
+    chunk kind (payloadAt file at size) (size - length (payloadAt file at size)) (rest (at + advanceTotal size))
 
 abbrev pub onHead : List ℕ → ℕ → (ℕ → Walk) → Head → Walk
 onHead file at rest head.Short = stop ranOut

@@ -2,10 +2,12 @@
 use crate::entry::ChunkIndexEntry;
 use chunk::AUDIO_CHUNK_TAG;
 use chunk::VIDEO_CHUNK_TAG;
+use chunk::advance_total;
 use demuxer::head::Head;
 use demuxer::head::head_at;
 use demuxer::head::sample_count;
 use demuxer::position::Position;
+use demuxer::walker::Walker;
 use error::AmvError;
 ghost use mathlib.Core.Path.{_≡_};
 ghost use Prim.Native.Nat.{_+_, _*_, _≤_};
@@ -13,6 +15,7 @@ ghost use lib.ListN.{length};
 ghost use Rattle.fields.specs.File.{fileLimit};
 ghost use Rattle.fields.specs.Le.{put};
 ghost use Rattle.error.specs.Answer.{accepted, andThen};
+ghost use Rattle.prelude.specs.Layout.{preludeLen};
 ghost use Rattle.demuxer.specs.Position.{start};
 ghost use Rattle.chunk_index.specs.Entry.{entryLen, tableBytes};
 ghost use Rattle.chunk_index.specs.Steps.{onHeadIndexed, indexedAt, stepAt, Walked, NextWalked};
@@ -74,9 +77,9 @@ fn indexed_at(file: &[u8], at: usize) -> Indexed
 // Counts the records of the walk. It reads headers only.
 fn count_records(file: &[u8]) -> SummaryResult
     requires { ⌜ length (now file) ≤ fileLimit ⌝ }
-    ensures { λ r. ⌜ saidSummary r ≡ andThen (tagsKnown 316 (fileWalk (now (file .entry)))) (λ _. accepted (countsFrom (record { frames = 0; blocks = 0 }) (fileWalk (now (file .entry))))) ⌝ }
+    ensures { λ r. ⌜ saidSummary r ≡ andThen (tagsKnown preludeLen (fileWalk (now (file .entry)))) (λ _. accepted (countsFrom (record { frames = 0; blocks = 0 }) (fileWalk (now (file .entry))))) ⌝ }
 {
-    let mut at: usize = 316;
+    let mut at: usize = Walker::START as usize;
     let mut frames: u64 = 0;
     let mut blocks: u64 = 0;
     loop {
@@ -89,11 +92,11 @@ fn count_records(file: &[u8]) -> SummaryResult
             }
             Indexed::Frame(size) => {
                 frames += 1;
-                at += 8 + size as usize;
+                at += advance_total(size) as usize;
             }
             Indexed::Sound(size) => {
                 blocks += 1;
-                at += 8 + size as usize;
+                at += advance_total(size) as usize;
             }
         }
     }

@@ -1,25 +1,42 @@
 -- A payload that is whole, and one that is short. Assumes nothing.
-use mathlib.Core.Path.{_≡_, refl, _∙_}
+use mathlib.Core.Path.{_≡_, refl, sym, ap, _∙_}
 use mathlib.Core.Bool.{Bool, true, false, cond}
 use mathlib.Core.List.{List}
-use Prim.Native.Nat.{ℕ, _+_, _≤_, _<_}
+use Prim.Native.Nat.{ℕ, _+_, _-_, _≤_, _<_, min}
+use native.Mathlib.Decide.{decLe}
+use native.Mathlib.Nat.{lt-of-not-le}
 use native.Mathlib.Omega.{arith}
 use borrow.Author.Tests.{le-leb, lt-leb, leb-true}
 use lib.Dec.{leb}
 use lib.ListN.{length, take, drop, length-take, length-drop}
+use lib.Seq.{take-all}
+use Rattle.error.specs.Answer.{Answer, accepted, ask}
 use Rattle.fields.specs.Le.{le}
-use Rattle.fields.proofs.Laws.{le-take, le-drop}
-use Rattle.demuxer.specs.Head.{bodyAt, countOf}
+use Rattle.parse.specs.Preamble.{preambleOf}
+use Rattle.parse.specs.declared.preamble.AmvAudioPreamble.{AmvAudioPreamble}
+use Rattle.demuxer.specs.Head.{CountIs, bodyAt, preambleCount, countOf}
 use Rattle.demuxer.specs.Packet.{payloadOf}
 use Rattle.demuxer.specs.declared.head.Body.the-variants.{Whole, Short}
 use Rattle.demuxer.specs.declared.packet.Packet.{Packet}
+
+-- the count of a payload, written out
+pub count-is : CountIs
+unfolding countOf preambleOf
+count-is payload = go (leb 8 (length payload))
+  where
+    go : (b : Bool)
+        → preambleCount (ask b 25 0 (accepted (record { state = le 4 payload 0; «decoded_sample_count» = le 4 payload 4 })))
+        ≡ cond b (le 4 payload 4) 0
+    go true = refl
+    go false = refl
 
 module _ (file : List ℕ) (start size : ℕ) where
   pub body-short : bodyAt file start size ≡ Short → leb (start + size) (length file) ≡ false
   unfolding bodyAt
   body-short e = go _ refl e
     where
-      go : (b : Bool) → leb (start + size) (length file) ≡ b → cond b (Whole start size) Short ≡ Short → leb (start + size) (length file) ≡ false
+      go : (b : Bool) → leb (start + size) (length file) ≡ b → cond b (Whole start size) Short ≡ Short
+          → leb (start + size) (length file) ≡ false
       go true p q = let z : _≡_ {A = ℕ} 0 1 = cc in absurd (omega arith)
       go false p q = p
 
@@ -38,25 +55,29 @@ module _ (file : List ℕ) (start size : ℕ) where
       let l : start + size ≤ length file = leb-true _ _ (b .0) in
       (b .1, omega (arith, l, b .1, b .2))
 
-  -- the count of a payload of which fewer than 8 bytes are there
-  pub count-short : size < 8 → countOf (take size (drop start file)) ≡ 0
-  unfolding countOf
-  count-short h =
-      let l : length (take size (drop start file)) < 8 = simp length-take (omega arith) in
-      rw (lt-leb _ _ l)
-
-  pub count-cut : length file < start + 8 → countOf (take size (drop start file)) ≡ 0
-  unfolding countOf
-  count-cut h =
+  -- the count of a payload that starts past the file's end
+  pub count-past : length file < start → countOf (take size (drop start file)) ≡ 0
+  count-past h =
       let l : length (take size (drop start file)) < 8 = simp (length-take, length-drop) (omega arith) in
-      rw (lt-leb _ _ l)
+      count-is _ ∙ rw (lt-leb _ _ l)
 
-  -- and of one whose first 8 are
-  pub count-there : 8 ≤ size → start + 8 ≤ length file → countOf (take size (drop start file)) ≡ le 4 file (start + 4)
+  -- a payload is the part of it that the file has
+  pub payload-there : take (min (length file - start) size) (drop start file) ≡ take size (drop start file)
+  payload-there =
+      elim (decLe size (length file - start)) [
+        | yes l ↦ let e : min (length file - start) size ≡ size = omega arith in rw e
+        | no l ↦
+            let m : length (drop start file) ≤ min (length file - start) size = simp length-drop (omega (arith, lt-of-not-le l)) in
+            let n : length (drop start file) ≤ size = simp length-drop (omega (arith, lt-of-not-le l)) in
+            take-all _ _ m ∙ sym (take-all _ _ n)
+      ]
+
+  -- and so its count is that of the preamble read from this part
+  pub count-read : {n : ℕ} {said : Answer AmvAudioPreamble}
+      → n ≡ min (length file - start) size → said ≡ preambleOf (take n (drop start file))
+      → preambleCount said ≡ countOf (take size (drop start file))
   unfolding countOf
-  count-there h k =
-      let l : 8 ≤ length (take size (drop start file)) = simp (length-take, length-drop) (omega arith) in
-      rw (le-leb _ _ l) (le-take 4 size (drop start file) 4 (omega arith) ∙ le-drop 4 start file 4)
+  count-read e s = ap preambleCount s ∙ rw e (ap (λ (payload : List ℕ). preambleCount (preambleOf payload)) payload-there)
 
 -- a packet's payload that the file has is as long as the packet says
 pub length-payload : (file : List ℕ) (p : Packet) → p .start + p .len ≤ length file → length (payloadOf file p) ≡ p .len

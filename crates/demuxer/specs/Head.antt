@@ -1,13 +1,17 @@
 -- What stands at an offset of a file. Assumes nothing.
+use mathlib.Core.Path.{_≡_}
 use Prim.Native.Nat.{ℕ, _+_}
 use mathlib.Core.Bool.{Bool, cond, _&&_}
 use mathlib.Core.List.{List}
 use lib.Dec.{leb, eqb}
 use lib.ListN.{length}
+use Rattle.error.specs.Answer.{Answer, accepted, refused}
 use Rattle.fields.specs.Le.{le}
 use Rattle.chunk.specs.Chunk.{kindOf}
 use Rattle.chunk.specs.declared.ChunkKind.{ChunkKind}
 use Rattle.chunk.specs.declared.ChunkKind.the-variants.{Video, Audio, Other}
+use Rattle.parse.specs.Preamble.{preambleOf}
+use Rattle.parse.specs.declared.preamble.AmvAudioPreamble.{AmvAudioPreamble}
 use Rattle.demuxer.specs.declared.head.Head.{Head}
 use Rattle.demuxer.specs.declared.head.Head.the-variants as head
 use Rattle.demuxer.specs.declared.head.Body.{Body}
@@ -43,6 +47,15 @@ headAt file at =
 unfoldable pub bodyAt : List ℕ → ℕ → ℕ → Body
 bodyAt file start size = cond (leb (start + size) (length file)) (body.Whole start size) body.Short
 
--- "the u32 at payload 4, or 0 under 8 bytes"
+-- the count of a preamble, 0 where there is none
+abbrev pub preambleCount : Answer AmvAudioPreamble → ℕ
+preambleCount (accepted p) = p .«decoded_sample_count»
+preambleCount (refused r) = 0
+
+-- "the u32 at payload 4, or 0 under 8 bytes": as `AmvAudioPreamble::parse` reads it
 unfoldable pub countOf : List ℕ → ℕ
-countOf payload = cond (leb 8 (length payload)) (le 4 payload 4) 0
+countOf payload = preambleCount (preambleOf payload)
+
+-- the same, written out
+abbrev pub CountIs : Type 0
+CountIs = (payload : List ℕ) → countOf payload ≡ cond (leb 8 (length payload)) (le 4 payload 4) 0

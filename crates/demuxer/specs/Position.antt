@@ -2,11 +2,13 @@
 use Prim.Native.Nat.{ℕ, _+_, _≤_}
 use mathlib.Core.Bool.{Bool, _&&_}
 use lib.Dec.{leb}
+use Rattle.chunk.specs.Chunk.{advanceTotal}
+use Rattle.prelude.specs.Layout.{preludeLen}
 use Rattle.demuxer.specs.declared.position.Position.{Position}
 
 -- 01: "A fresh one starts at 316 with zero counters"
 abbrev pub start : Position
-start = record { cursor = 316; frames = record { 0 = 0 }; samples = record { 0 = 0 }; blocks = record { 0 = 0 } }
+start = record { cursor = preludeLen; frames = record { 0 = 0 }; samples = record { 0 = 0 }; blocks = record { 0 = 0 } }
 
 -- 2^62
 abbrev pub countLimit : ℕ
@@ -28,7 +30,7 @@ pub record InRange (p : Position) : Type 0 where
 abbrev pub pastFrame : Position → ℕ → Position
 pastFrame p size =
     record {
-      cursor = p .cursor + (8 + size);
+      cursor = p .cursor + advanceTotal size;
       frames = record { 0 = p .frames .0 + 1 };
       samples = p .samples;
       blocks = p .blocks;
@@ -38,7 +40,7 @@ pastFrame p size =
 abbrev pub pastSound : Position → ℕ → ℕ → Position
 pastSound p size count =
     record {
-      cursor = p .cursor + (8 + size);
+      cursor = p .cursor + advanceTotal size;
       frames = p .frames;
       samples = record { 0 = p .samples .0 + count };
       blocks = record { 0 = p .blocks .0 + 1 };

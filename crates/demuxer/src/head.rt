@@ -1,5 +1,7 @@
 // What stands at an offset of a file: a chunk's header, the trailer, or neither.
 use chunk::ChunkKind;
+use parse::preamble::AmvAudioPreamble;
+use parse::preamble::AmvAudioPreambleResult;
 ghost use mathlib.Core.Path.{_≡_};
 ghost use Prim.Native.Nat.{_+_};
 ghost use lib.ListN.{take, drop};
@@ -75,18 +77,17 @@ pub fn body_at(file: &[u8], start: usize, size: u32) -> Body
     Body::Whole(start, len)
 }
 
-// The sample count of a sound payload, of which the file may have only a part.
+// The sample count of a sound payload, by the preamble in the part of it that the file has; 0 where that is too short for one.
 pub fn sample_count(file: &[u8], start: usize, size: u32) -> u32
     ensures { λ r. ⌜ r ≡ countOf (take size (drop start (now (file .entry)))) ⌝ }
 {
-    if size < 8 {
+    if file.len() < start {
         return 0;
     }
-    if file.len() < 8 {
-        return 0;
+    let there = fields::min((file.len() - start) as u64, size as u64) as usize;
+    let end = start + there;
+    match AmvAudioPreamble::parse(&file[start..end]) {
+        AmvAudioPreambleResult::Ok(preamble) => preamble.decoded_sample_count,
+        AmvAudioPreambleResult::Err(_) => 0,
     }
-    if file.len() - 8 < start {
-        return 0;
-    }
-    fields::read_u32_le(file, start + 4)
 }

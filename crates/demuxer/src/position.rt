@@ -1,4 +1,6 @@
 // Where a walker stands. A frame count never stands where a sample count belongs, nor a block count.
+use crate::walker::Walker;
+use chunk::advance_total;
 ghost use mathlib.Core.Path.{_≡_};
 ghost use Rattle.demuxer.specs.Position.{start, inRange, InRange, pastFrame, pastSound};
 
@@ -20,14 +22,11 @@ pub struct Position {
 pub const COUNT_LIMIT: u64 = 4611686018427387904;
 
 impl Position {
-    // The offset of the first chunk.
-    pub const START: u64 = 316;
-
     pub fn new() -> Position
         ensures { λ r. ⌜ r ≡ start ⌝ }
     {
         Position {
-            cursor: Position::START,
+            cursor: Walker::START,
             frames: FrameStamp(0),
             samples: SampleStamp(0),
             blocks: BlockCount(0),
@@ -52,7 +51,7 @@ impl Position {
         true
     }
 
-    // Past a frame of a length: no padding, so exactly 8 more than the length.
+    // Past a frame of a length.
     pub fn past_frame(self, size: u32) -> Position
         requires { ⌜ InRange self ⌝ }
         ensures { λ r. ⌜ r ≡ pastFrame self size ⌝ }
@@ -60,7 +59,7 @@ impl Position {
         let samples = self.samples;
         let blocks = self.blocks;
         Position {
-            cursor: self.cursor + (8 + size as u64),
+            cursor: self.cursor + advance_total(size),
             frames: FrameStamp(self.frames.0 + 1),
             samples,
             blocks,
@@ -74,7 +73,7 @@ impl Position {
     {
         let frames = self.frames;
         Position {
-            cursor: self.cursor + (8 + size as u64),
+            cursor: self.cursor + advance_total(size),
             frames,
             samples: SampleStamp(self.samples.0 + count as u64),
             blocks: BlockCount(self.blocks.0 + 1),

@@ -9,6 +9,7 @@ use crate::packet::PacketDuration;
 use crate::packet::shown;
 use crate::position::Position;
 use error::AmvError;
+use prelude::prelude::AmvPrelude;
 ghost use mathlib.Core.Path.{_≡_};
 ghost use Rattle.demuxer.specs.Position.{InRange};
 ghost use Rattle.demuxer.specs.Read.{fresh, cutOff, atTrailer, advanced, saidRead, Placed, readFrame, readSound, readChunk, readOf};
@@ -39,6 +40,9 @@ pub struct Read {
 }
 
 impl Walker {
+    // The offset that a fresh walker stands at.
+    pub const START: u64 = AmvPrelude::LEN as u64;
+
     pub fn new() -> Walker
         ensures { λ r. ⌜ r ≡ fresh ⌝ }
     {

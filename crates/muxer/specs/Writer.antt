@@ -5,7 +5,7 @@ use mathlib.Core.Bool.{Bool, true, false, not, cond, _&&_, _||_}
 use mathlib.Core.List.{List, _++_}
 use lib.Dec.{leb, ltb, eqb}
 use lib.ListN.{length}
-use Rattle.chunk.specs.Chunk.{streamTag, trailerBytes}
+use Rattle.chunk.specs.Chunk.{streamTag, advanceTotal, trailerBytes}
 use Rattle.duration.specs.Duration.{packedOf, runLength}
 use Rattle.error.specs.Answer.{Answer, accepted, refused, ask}
 use Rattle.error.specs.Refusal.{said}
@@ -14,7 +14,7 @@ use Rattle.error.specs.declared.AmvResult.the-variants.{Ok, Err}
 use Rattle.fields.specs.File.{fileLimit}
 use Rattle.fields.specs.Le.{leBytes, put}
 use Rattle.prelude.specs.Built.{preludeBytes}
-use Rattle.prelude.specs.Prelude.{preludeLen}
+use Rattle.prelude.specs.Layout.{preludeLen}
 use Rattle.muxer.specs.declared.Settings.{Settings}
 use Rattle.muxer.specs.declared.Writer.{Writer}
 use Rattle.muxer.specs.declared.Wrote.{Wrote}
@@ -84,7 +84,7 @@ packetQuestions w size stream room =
     askOpen w
     (ask (leb size 4294967295) 52 (w .written)
     (ask (leb stream 1) 53 (w .written)
-    (ask (fits (w .written + (8 + size)) room) 54 (w .written)
+    (ask (fits (w .written + advanceTotal size) room) 54 (w .written)
     (accepted tt))))
 
 -- "packet and trailer go to offset bytes written, which grows by their length"
@@ -94,7 +94,7 @@ afterPacket w size stream =
       settings = w .settings;
       begun = w .begun;
       ended = w .ended;
-      written = w .written + (8 + size);
+      written = w .written + advanceTotal size;
       frames = framesAfter stream (w .frames);
     }
 

@@ -6,15 +6,17 @@ use error::AmvError;
 use error::AmvResult;
 use fields::file::FILE_LIMIT;
 use prelude::build::build_prelude_bytes;
+use prelude::prelude::AmvPrelude;
 ghost use mathlib.Core.Path.{_≡_};
 ghost use Prim.Native.Nat.{_+_, _≤_};
 ghost use lib.ListN.{length};
-ghost use Rattle.chunk.specs.Chunk.{streamTag, trailerBytes};
+ghost use Rattle.chunk.specs.Chunk.{streamTag, advanceTotal, trailerBytes};
 ghost use Rattle.error.specs.Answer.{accepted};
 ghost use Rattle.error.specs.Refusal.{said};
 ghost use Rattle.fields.specs.File.{fileLimit};
 ghost use Rattle.fields.specs.Le.{put};
 ghost use Rattle.prelude.specs.Built.{preludeBytes};
+ghost use Rattle.prelude.specs.Layout.{preludeLen};
 ghost use Rattle.muxer.specs.Writer.{fresh, fits, framesAfter, packetBytes, patchRunLength, askOpen, headerQuestions, packetQuestions, trailerQuestions, afterHeader, afterPacket, afterTrailer, headerCall, packetCall, trailerCall, Meets, acceptedWith, refusedWith};
 
 pub struct Settings {
@@ -53,12 +55,12 @@ fn has_room(room: usize, off: u64, len: u64) -> bool
     true
 }
 
-// A packet's length in the file: a tag, a size, the payload and no padding.
+// A packet's length in the file: a chunk's, from its payload's.
 fn packet_len(size: usize) -> u64
     requires { ⌜ size ≤ 4294967295 ⌝ }
-    ensures { λ r. ⌜ r ≡ 8 + size ⌝ }
+    ensures { λ r. ⌜ r ≡ advanceTotal size ⌝ }
 {
-    8 + size as u64
+    chunk::advance_total(size as u32)
 }
 
 fn payload_size(payload: &[u8]) -> u32
@@ -80,7 +82,7 @@ fn frames_after(stream: u32, frames: u64) -> u64
 }
 
 fn put_packet(buf: &mut [u8], off: usize, payload: &[u8], stream: u32)
-    requires { ⌜ off + (8 + length (now payload)) ≤ length (now buf) ⌝ }
+    requires { ⌜ off + advanceTotal (length (now payload)) ≤ length (now buf) ⌝ }
     requires { ⌜ length (now payload) ≤ 4294967295 ⌝ }
     ensures { λ _. ⌜ now (buf .exit) ≡ put (now (buf .entry)) off (packetBytes stream (now (payload .entry))) ⌝ }
 {
@@ -114,7 +116,7 @@ impl Wrote {
 
 impl Settings {
     fn put_prelude(self, buf: &mut [u8])
-        requires { ⌜ 316 ≤ length (now buf) ⌝ }
+        requires { ⌜ preludeLen ≤ length (now buf) ⌝ }
         ensures { λ _. ⌜ now (buf .exit) ≡ put (now (buf .entry)) 0 (preludeBytes (self .width) (self .height) (self .fps) 0 (self .rate) (self .channels)) ⌝ }
     {
         let built = build_prelude_bytes(
@@ -131,6 +133,9 @@ impl Settings {
 }
 
 impl Writer {
+    // The bytes written once a header is accepted, where packets start.
+    pub const START: u64 = AmvPrelude::LEN as u64;
+
     pub fn new(settings: Settings) -> Writer
         ensures { λ r. ⌜ r ≡ fresh settings ⌝ }
     {
@@ -153,7 +158,7 @@ impl Writer {
         if self.ended {
             return AmvResult::Err(AmvError::AlreadyEnded(self.written));
         }
-        if has_room(room, 0, 316) {
+        if has_room(room, 0, Writer::START) {
             AmvResult::Ok
         } else {
             AmvResult::Err(AmvError::NoRoom(self.written))
@@ -170,7 +175,7 @@ impl Writer {
         if self.ended {
             return AmvResult::Err(AmvError::AlreadyEnded(self.written));
         }
-        if self.written < 316 {
+        if self.written < Writer::START {
             return AmvResult::Err(AmvError::PreludeMissing(self.written));
         }
         AmvResult::Ok
@@ -216,13 +221,13 @@ impl Writer {
             settings,
             begun: true,
             ended: self.ended,
-            written: 316,
+            written: Writer::START,
             frames: self.frames,
         }
     }
 
     fn after_packet(self, size: usize, stream: u32) -> Writer
-        requires { ⌜ self .written + (8 + size) ≤ fileLimit ⌝ }
+        requires { ⌜ self .written + advanceTotal size ≤ fileLimit ⌝ }
         ensures { λ r. ⌜ r ≡ afterPacket self size stream ⌝ }
     {
         let settings = self.settings;

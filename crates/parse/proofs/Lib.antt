@@ -1,1 +1,2 @@
+pub mod WaveFormats
 pub mod Sentences

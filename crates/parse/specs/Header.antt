@@ -10,6 +10,19 @@ use Rattle.parse.specs.declared.header.AmvHeader.{AmvHeader}
 use Rattle.parse.specs.declared.header.AmvHeaderResult.{AmvHeaderResult}
 use Rattle.parse.specs.declared.header.AmvHeaderResult.the-variants.{Ok, Err}
 
+-- 01: "prelude length and fresh states belong to their types"; the original's `AmvHeader::new`: the flag 1, and 0 elsewhere
+abbrev pub newHeader : ℕ → ℕ → AmvHeader
+newHeader width height =
+    record {
+      «micros_per_frame» = 0;
+      width = width;
+      height = height;
+      fps = 0;
+      «flag_one» = 1;
+      «reserved_30» = 0;
+      «duration_packed» = 0;
+    }
+
 -- 01's offsets in the file, less the 32 at which the body starts: the quotient at 32, width 64, height 68, fps 72, the flag 76,
 -- zero at 80, duration 84
 unfoldable pub headerFields : List ℕ → AmvHeader

@@ -1,4 +1,5 @@
 -- The `WAVEFORMATEX` of the sound. Assumes nothing.
+use mathlib.Core.Path.{_≡_}
 use Prim.Native.Nat.{ℕ, _*_, min}
 use mathlib.Core.Bool.{cond}
 use mathlib.Core.List.{List}
@@ -40,6 +41,19 @@ saidWaveFormat (Err e) = refused (refusalOf e)
 abbrev pub averageOf : ℕ → ℕ
 averageOf rate = min (rate * 2) 4294967295
 
+-- the original's `AmvWaveFormat::new`: one channel of 16-bit PCM at a rate
+abbrev pub newWaveFormat : ℕ → AmvWaveFormat
+newWaveFormat rate =
+    record {
+      «format_tag» = 1;
+      channels = 1;
+      «samples_per_sec» = rate;
+      «avg_bytes_per_sec» = averageOf rate;
+      «block_align» = 2;
+      «bits_per_sample» = 16;
+      «cb_size» = 0;
+    }
+
 -- 01: "Format 1? 19. One channel? 20. Average as written above? 21. Align 2? 22. Bits 16? 23. cbSize 0? 24. Places: field offsets."
 unfoldable pub waveFormatSentinels : AmvWaveFormat → Answer Unit
 waveFormatSentinels f =
@@ -50,3 +64,7 @@ waveFormatSentinels f =
     (ask (eqb (f .«bits_per_sample») 16) 23 298
     (ask (eqb (f .«cb_size») 0) 24 300
     (accepted tt))))))
+
+-- what `new` makes is accepted, at every rate
+abbrev pub NewPasses : Type 0
+NewPasses = (rate : ℕ) → waveFormatSentinels (newWaveFormat rate) ≡ accepted tt

@@ -7,7 +7,7 @@ ghost use Prim.Native.Nat.{_*_};
 ghost use lib.IntN.{pos};
 ghost use Rattle.error.specs.Refusal.{said};
 ghost use Rattle.duration.specs.Duration.{durationOf, totalSeconds};
-ghost use Rattle.parse.specs.Header.{headerOf, saidHeader, headerSentinels};
+ghost use Rattle.parse.specs.Header.{newHeader, headerOf, saidHeader, headerSentinels};
 
 pub struct AmvHeader {
     pub micros_per_frame: u32,
@@ -25,10 +25,28 @@ pub enum AmvHeaderResult {
 }
 
 impl AmvHeader {
+    // The body's length.
+    pub const LEN: usize = 56;
+
+    // A header of a picture's size, with the flag set and nothing else.
+    pub fn new(width: u32, height: u32) -> AmvHeader
+        ensures { λ r. ⌜ r ≡ newHeader width height ⌝ }
+    {
+        AmvHeader {
+            micros_per_frame: 0,
+            width,
+            height,
+            fps: 0,
+            flag_one: 1,
+            reserved_30: 0,
+            duration_packed: 0,
+        }
+    }
+
     pub fn parse(body: &[u8]) -> AmvHeaderResult
         ensures { λ r. ⌜ saidHeader r ≡ headerOf (now (body .entry)) ⌝ }
     {
-        if body.len() < 56 {
+        if body.len() < AmvHeader::LEN {
             return AmvHeaderResult::Err(AmvError::HeaderTooShort);
         }
         let header = AmvHeader {

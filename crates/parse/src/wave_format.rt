@@ -4,7 +4,7 @@ use error::AmvResult;
 ghost use mathlib.Core.Path.{_≡_};
 ghost use Rattle.error.specs.Refusal.{said};
 ghost use Rattle.fields.specs.Capped.{quotient};
-ghost use Rattle.parse.specs.WaveFormat.{waveFormatOf, saidWaveFormat, cbSizeOf, waveFormatSentinels};
+ghost use Rattle.parse.specs.WaveFormat.{newWaveFormat, waveFormatOf, saidWaveFormat, cbSizeOf, waveFormatSentinels};
 
 pub struct AmvWaveFormat {
     pub format_tag: u16,
@@ -21,11 +21,11 @@ pub enum AmvWaveFormatResult {
     Err(AmvError),
 }
 
-// A body of 18 or 19 bytes has no `cbSize`: it counts as 0, whatever stands there.
+// A body shorter than that of a file has no `cbSize`: it counts as 0, whatever stands there.
 fn cb_size(body: &[u8]) -> u16
     ensures { λ r. ⌜ r ≡ cbSizeOf (now (body .entry)) ⌝ }
 {
-    if body.len() < 20 {
+    if body.len() < AmvWaveFormat::LEN {
         0
     } else {
         fields::read_u16_le(body, 16)
@@ -33,10 +33,31 @@ fn cb_size(body: &[u8]) -> u16
 }
 
 impl AmvWaveFormat {
+    // The body's length in a file.
+    pub const LEN: usize = 20;
+
+    // The shortest body that is read.
+    pub const MIN_LEN: usize = 18;
+
+    // What a device writes at a sample rate.
+    pub fn new(samples_per_sec: u32) -> AmvWaveFormat
+        ensures { λ r. ⌜ r ≡ newWaveFormat «samples_per_sec» ⌝ }
+    {
+        AmvWaveFormat {
+            format_tag: 1,
+            channels: 1,
+            samples_per_sec,
+            avg_bytes_per_sec: fields::saturating_mul(samples_per_sec, 2),
+            block_align: 2,
+            bits_per_sample: 16,
+            cb_size: 0,
+        }
+    }
+
     pub fn parse(body: &[u8]) -> AmvWaveFormatResult
         ensures { λ r. ⌜ saidWaveFormat r ≡ waveFormatOf (now (body .entry)) ⌝ }
     {
-        if body.len() < 18 {
+        if body.len() < AmvWaveFormat::MIN_LEN {
             return AmvWaveFormatResult::Err(AmvError::WaveFormatTooShort);
         }
         let format = AmvWaveFormat {

@@ -10,6 +10,10 @@ use Rattle.fields.specs.Le.{le}
 use Rattle.prelude.specs.declared.layout.LayoutItem.{LayoutItem}
 use Rattle.prelude.specs.declared.layout.LayoutItem.the-variants.{Tag, Size, Body}
 
+-- 01: "The prelude travels .. as one value of 316 bytes"; a fresh walker "starts at 316"
+abbrev pub preludeLen : ℕ
+preludeLen = 316
+
 -- the characters of a tag as a little-endian number; `Tags` spells them out
 abbrev pub RIFF : ℕ
 RIFF = 0x46464952
@@ -48,7 +52,7 @@ layout =
 
 -- what stands past the last item: nothing, at the first chunk
 abbrev pub past : LayoutItem
-past = Body 316 0
+past = Body preludeLen 0
 
 -- "For each: does the file reach its end? 11. Tag equal? 12. Size equal? 13. Place: its start."
 unfoldable pub askWord : List ℕ → ℕ → ℕ → Refusal → Answer Unit

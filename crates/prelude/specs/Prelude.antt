@@ -8,14 +8,10 @@ use Rattle.error.specs.Refusal.{refusalOf}
 use Rattle.fields.specs.File.{withinLimit}
 use Rattle.parse.specs.Header.{headerFields, headerSentinels}
 use Rattle.parse.specs.WaveFormat.{waveFormatFields, waveFormatSentinels}
-use Rattle.prelude.specs.Layout.{layout, askItems}
+use Rattle.prelude.specs.Layout.{preludeLen, layout, askItems}
 use Rattle.prelude.specs.declared.prelude.AmvPrelude.{AmvPrelude}
 use Rattle.prelude.specs.declared.prelude.AmvPreludeResult.{AmvPreludeResult}
 use Rattle.prelude.specs.declared.prelude.AmvPreludeResult.the-variants.{Ok, Err}
-
--- 01: "The prelude travels .. as one value of 316 bytes"; a fresh walker "starts at 316"
-abbrev pub preludeLen : ℕ
-preludeLen = 316
 
 -- the bytes from a start to an end
 abbrev pub between : ℕ → ℕ → List ℕ → List ℕ

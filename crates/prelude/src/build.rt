@@ -1,15 +1,16 @@
 // The prelude of a new file.
 use crate::layout::LayoutItem;
+use crate::prelude::AmvPrelude;
 ghost use mathlib.Core.Path.{_≡_};
 ghost use lib.ListN.{length};
 ghost use Rattle.fields.specs.Le.{putLe};
-ghost use Rattle.prelude.specs.Layout.{layout};
+ghost use Rattle.prelude.specs.Layout.{preludeLen, layout};
 ghost use Rattle.prelude.specs.Built.{builtOf};
 ghost use Rattle.prelude.specs.Stores.{Within, writeItem, writeItems, headerStores, waveFormatStores};
 
 // The bytes together with the settings that they hold.
 pub struct BuiltPrelude {
-    pub bytes: [u8; 316],
+    pub bytes: [u8; AmvPrelude::LEN],
     pub width: u32,
     pub height: u32,
     pub fps: u32,
@@ -19,7 +20,7 @@ pub struct BuiltPrelude {
 
 // The value of a tag or a size; a body is left as it is.
 fn write_item(bytes: &mut [u8], item: LayoutItem)
-    requires { ⌜ length (now bytes) ≡ 316 ⌝ }
+    requires { ⌜ length (now bytes) ≡ preludeLen ⌝ }
     requires { ⌜ Within item ⌝ }
     ensures { λ _. ⌜ now (bytes .exit) ≡ writeItem (now (bytes .entry)) item ⌝ }
 {
@@ -31,7 +32,7 @@ fn write_item(bytes: &mut [u8], item: LayoutItem)
 }
 
 fn write_layout(bytes: &mut [u8])
-    requires { ⌜ length (now bytes) ≡ 316 ⌝ }
+    requires { ⌜ length (now bytes) ≡ preludeLen ⌝ }
     ensures { λ _. ⌜ now (bytes .exit) ≡ writeItems (now (bytes .entry)) layout ⌝ }
 {
     let mut i = 0;
@@ -42,7 +43,7 @@ fn write_layout(bytes: &mut [u8])
 }
 
 fn write_header_body(bytes: &mut [u8], width: u32, height: u32, fps: u32, duration_packed: u32)
-    requires { ⌜ length (now bytes) ≡ 316 ⌝ }
+    requires { ⌜ length (now bytes) ≡ preludeLen ⌝ }
     ensures { λ _. ⌜ now (bytes .exit) ≡ headerStores (now (bytes .entry)) width height fps «duration_packed» ⌝ }
 {
     fields::write_u32_le(bytes, 32, fields::quotient(1000000, fps));
@@ -54,7 +55,7 @@ fn write_header_body(bytes: &mut [u8], width: u32, height: u32, fps: u32, durati
 }
 
 fn write_wave_format(bytes: &mut [u8], rate: u32, channels: u16)
-    requires { ⌜ length (now bytes) ≡ 316 ⌝ }
+    requires { ⌜ length (now bytes) ≡ preludeLen ⌝ }
     ensures { λ _. ⌜ now (bytes .exit) ≡ waveFormatStores (now (bytes .entry)) rate channels ⌝ }
 {
     fields::write_u16_le(bytes, 284, 1);
@@ -75,7 +76,7 @@ pub fn build_prelude_bytes(
 ) -> BuiltPrelude
     ensures { λ r. ⌜ r ≡ builtOf width height fps «duration_packed» rate channels ⌝ }
 {
-    let mut bytes = [0u8; 316];
+    let mut bytes = [0u8; AmvPrelude::LEN];
     write_layout(&mut bytes);
     write_header_body(&mut bytes, width, height, fps, duration_packed);
     write_wave_format(&mut bytes, rate, channels);

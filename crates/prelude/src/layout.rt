@@ -1,4 +1,7 @@
 // The prelude's fixed items, in offset order.
+use crate::prelude::AmvPrelude;
+use parse::header::AmvHeader;
+use parse::wave_format::AmvWaveFormat;
 ghost use mathlib.Core.Path.{_≡_};
 ghost use lib.ListN.{getD};
 ghost use Rattle.prelude.specs.Layout.{layout, past};
@@ -22,6 +25,11 @@ const STRF: u32 = 0x66727473;
 
 const MOVI: u32 = 0x69766f6d;
 
+// The sizes of the two bodies.
+const AMVH_SIZE: u32 = AmvHeader::LEN as u32;
+
+const SOUND_STRF_SIZE: u32 = AmvWaveFormat::LEN as u32;
+
 // Each with its offset: a tag, a size that is fixed, or a body of so many bytes.
 pub enum LayoutItem {
     Tag(usize, u32),
@@ -42,8 +50,8 @@ impl LayoutItem {
             2 => LayoutItem::Tag(12, LIST),
             3 => LayoutItem::Tag(20, HDRL),
             4 => LayoutItem::Tag(24, AMVH),
-            5 => LayoutItem::Size(28, 56),
-            6 => LayoutItem::Body(32, 56),
+            5 => LayoutItem::Size(28, AMVH_SIZE),
+            6 => LayoutItem::Body(32, AmvHeader::LEN),
             7 => LayoutItem::Tag(88, LIST),
             8 => LayoutItem::Tag(96, STRL),
             9 => LayoutItem::Tag(100, STRH),
@@ -55,11 +63,11 @@ impl LayoutItem {
             15 => LayoutItem::Tag(220, STRH),
             16 => LayoutItem::Size(224, 48),
             17 => LayoutItem::Tag(276, STRF),
-            18 => LayoutItem::Size(280, 20),
-            19 => LayoutItem::Body(284, 20),
+            18 => LayoutItem::Size(280, SOUND_STRF_SIZE),
+            19 => LayoutItem::Body(284, AmvWaveFormat::LEN),
             20 => LayoutItem::Tag(304, LIST),
             21 => LayoutItem::Tag(312, MOVI),
-            _ => LayoutItem::Body(316, 0),
+            _ => LayoutItem::Body(AmvPrelude::LEN, 0),
         }
     }
 }

@@ -12,8 +12,17 @@ ghost use lib.ListN.{length};
 ghost use lib.Dec.{leb};
 ghost use Rattle.error.specs.Answer.{accepted};
 ghost use Rattle.error.specs.Refusal.{refusalOf, said};
-ghost use Rattle.prelude.specs.Layout.{layout, askWord, askBody, askItem, askItems};
+ghost use Rattle.prelude.specs.Layout.{preludeLen, layout, askWord, askBody, askItem, askItems};
 ghost use Rattle.prelude.specs.Prelude.{saidPrelude, preludeFields, parseOf, zeros, zeroRanges, validatedOf, strictOf};
+
+// The two bodies.
+const HEADER_START: usize = 32;
+
+const HEADER_END: usize = HEADER_START + AmvHeader::LEN;
+
+const WAVE_FORMAT_START: usize = 284;
+
+const WAVE_FORMAT_END: usize = WAVE_FORMAT_START + AmvWaveFormat::LEN;
 
 pub struct AmvPrelude {
     pub header: AmvHeader,
@@ -117,7 +126,7 @@ fn require_all_zero(file: &[u8], place: usize, len: usize) -> AmvResult
 
 // The stretches that a device leaves zero.
 fn require_zero_ranges(file: &[u8]) -> AmvResult
-    requires { ⌜ 316 ≤ length (now file) ⌝ }
+    requires { ⌜ preludeLen ≤ length (now file) ⌝ }
     ensures { λ r. ⌜ said r ≡ zeroRanges (now (file .entry)) ⌝ }
 {
     let reserved = require_all_zero(file, 36, 28);
@@ -153,21 +162,21 @@ impl AmvPrelude {
 
     // The two bodies, of a file that has them.
     fn read(file: &[u8]) -> AmvPreludeResult
-        requires { ⌜ 316 ≤ length (now file) ⌝ }
+        requires { ⌜ preludeLen ≤ length (now file) ⌝ }
         ensures { λ r. ⌜ saidPrelude r ≡ accepted (preludeFields (now (file .entry))) ⌝ }
     {
-        let header = match AmvHeader::parse(&file[32..88]) {
+        let header = match AmvHeader::parse(&file[HEADER_START..HEADER_END]) {
             AmvHeaderResult::Ok(header) => header,
             AmvHeaderResult::Err(e) => return AmvPreludeResult::Err(e),
         };
-        let audio_format = match AmvWaveFormat::parse(&file[284..304]) {
+        let audio_format = match AmvWaveFormat::parse(&file[WAVE_FORMAT_START..WAVE_FORMAT_END]) {
             AmvWaveFormatResult::Ok(format) => format,
             AmvWaveFormatResult::Err(e) => return AmvPreludeResult::Err(e),
         };
         AmvPreludeResult::Ok(AmvPrelude {
             header,
             audio_format,
-            movi_payload_start: 316,
+            movi_payload_start: AmvPrelude::LEN as u64,
         })
     }
 
@@ -182,7 +191,7 @@ impl AmvPrelude {
 
     // What parse_strict goes on to ask.
     fn validated(self, file: &[u8]) -> AmvPreludeResult
-        requires { ⌜ 316 ≤ length (now file) ⌝ }
+        requires { ⌜ preludeLen ≤ length (now file) ⌝ }
         ensures { λ r. ⌜ saidPrelude r ≡ validatedOf self (now (file .entry)) ⌝ }
     {
         let header = self.header;

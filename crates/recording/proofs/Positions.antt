@@ -14,6 +14,7 @@ use Rattle.fields.proofs.Laws.{le-lt, bytes-left, bytes-right}
 use Rattle.demuxer.specs.Head.{countOf}
 use Rattle.demuxer.specs.Packet.{Shown, durationOf, ticks}
 use Rattle.demuxer.specs.Position.{pastFrame, pastSound}
+use Rattle.demuxer.proofs.Bodies.{count-is}
 use Rattle.demuxer.specs.declared.position.Position.{Position}
 use Rattle.chunk_index.specs.Walk.{Kind, frame, sound}
 use Rattle.chunk_index.specs.Chunks.{Chunk, chunkOf, chunkBytes, chunksBytes, Lengths}
@@ -114,8 +115,7 @@ bytes-payload kind payload ys b =
 
 -- a count is at most 2^28 for each byte of its chunk, which has 16 of them or more
 pub count-le : (payload : List ℕ) → Bytes payload → countOf payload ≤ 268435456 * (8 + length payload)
-unfolding countOf
-count-le payload b = go _ refl
+count-le payload b = rw (count-is payload) (go _ refl)
   where
     go : (t : Bool) → leb 8 (length payload) ≡ t → cond t (le 4 payload 4) 0 ≤ 268435456 * (8 + length payload)
     go true e = omega (arith, leb-true 8 (length payload) e, le-lt 4 payload 4 b)

@@ -10,6 +10,7 @@ use Rattle.error.specs.Answer.{Answer, accepted, refused, numbered, ask, andThe
 use Rattle.fields.specs.Le.{Bytes}
 use Rattle.demuxer.specs.Position.{start}
 use Rattle.demuxer.specs.declared.position.Position.{Position}
+use Rattle.prelude.specs.Layout.{preludeLen}
 use Rattle.prelude.specs.Prelude.{strictOf}
 use Rattle.chunk_index.specs.Walk.{Stop, ranOut, trailer, unknownTag, Walk, stop, chunk, past, walk}
 use Rattle.chunk_index.specs.Chunks.{Chunk, chunkOf, chunksBytes}
@@ -46,7 +47,7 @@ checkFrom p paired (chunk kind payload missing rest) = ask (eqb missing 0) 60 (p
 
 -- "10 to 24 as above; then per chunk"; paired "is yes exactly when the interleave check passes on its chunks"
 unfoldable pub checkOf : List ℕ → Answer Totals
-checkOf file = andThen (strictOf file) (λ _. checkFrom start (passes (interleave (tagsOf (walk file 316)))) (walk file 316))
+checkOf file = andThen (strictOf file) (λ _. checkFrom start (passes (interleave (tagsOf (walk file preludeLen)))) (walk file preludeLen))
 
 abbrev pub saidCheck : CheckResult → Answer Totals
 saidCheck (Ok t) = accepted t
@@ -64,7 +65,7 @@ totalsOf cs =
       frames = frames cs;
       blocks = blocks cs;
       samples = samples cs;
-      trailer = 316 + length (chunksBytes cs);
+      trailer = preludeLen + length (chunksBytes cs);
       paired = passes (interleave (chunkTags cs));
     }
 

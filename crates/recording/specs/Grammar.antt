@@ -6,7 +6,8 @@ use lib.ListN.{length}
 use Rattle.chunk.specs.Chunk.{trailerBytes}
 use Rattle.error.specs.Answer.{accepted}
 use Rattle.fields.specs.File.{fileLimit}
-use Rattle.prelude.specs.Prelude.{preludeLen, strictOf}
+use Rattle.prelude.specs.Layout.{preludeLen}
+use Rattle.prelude.specs.Prelude.{strictOf}
 use Rattle.prelude.specs.declared.prelude.AmvPrelude.{AmvPrelude}
 use Rattle.chunk_index.specs.Chunks.{Chunk, chunksBytes, Lengths}
 

@@ -10,6 +10,7 @@ use lib.ListN.{length, take, drop, getElem?}
 use lib.Signed.{leZ}
 use Rattle.error.specs.Answer.{Answer, accepted, refused, numbered}
 use Rattle.fields.specs.Le.{Bytes}
+use Rattle.prelude.specs.Layout.{preludeLen}
 use Rattle.demuxer.specs.Packet.{Shown}
 use Rattle.demuxer.specs.Read.{ReadAnswer, packet, End, fresh, readOf}
 use Rattle.demuxer.specs.declared.walker.Walker.{Walker}
@@ -111,7 +112,7 @@ pub data Left (file : List ℕ) : Walker → List Shown → Type 0 where
 
 -- "at a chunk also the cursor and the three counts, which are that chunk's offset and the frames, samples and blocks before it"
 pub record AtChunk (cs : List Chunk) (k : ℕ) (w : Walker) : Type 0 where
-  pub cursor-is : w .position .cursor ≡ 316 + length (chunksBytes (take k cs))
+  pub cursor-is : w .position .cursor ≡ preludeLen + length (chunksBytes (take k cs))
   pub frames-is : w .position .frames .0 ≡ frames (take k cs)
   pub samples-is : w .position .samples .0 ≡ samples (take k cs)
   pub blocks-is : w .position .blocks .0 ≡ blocks (take k cs)

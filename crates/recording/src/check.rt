@@ -19,6 +19,7 @@ ghost use lib.ListN.{length};
 ghost use Rattle.chunk.specs.Chunk.{kindOf};
 ghost use Rattle.chunk.specs.Interleave.{interleave, interleaveAt, even};
 ghost use Rattle.fields.specs.File.{fileLimit};
+ghost use Rattle.prelude.specs.Layout.{preludeLen};
 ghost use Rattle.demuxer.specs.Position.{start};
 ghost use Rattle.chunk_index.specs.Steps.{Walked};
 ghost use Rattle.chunk_index.specs.Walk.{walk};
@@ -113,7 +114,7 @@ fn paired_all(paired: bool, count: u64) -> bool
 
 fn check_chunks(file: &[u8]) -> CheckResult
     requires { ⌜ length (now file) ≤ fileLimit ⌝ }
-    ensures { λ r. ⌜ saidCheck r ≡ checkFrom start (passes (interleave (tagsOf (walk (now (file .entry)) 316)))) (walk (now (file .entry)) 316) ⌝ }
+    ensures { λ r. ⌜ saidCheck r ≡ checkFrom start (passes (interleave (tagsOf (walk (now (file .entry)) preludeLen)))) (walk (now (file .entry)) preludeLen) ⌝ }
 {
     let mut position = Position::new();
     let mut paired = true;

@@ -11,7 +11,7 @@ use Rattle.error.specs.Answer.{Answer, accepted, refused, ask, numberOf, placeO
 use Rattle.fields.specs.Le.{put}
 use Rattle.fields.proofs.Laws.{put-put, length-put, getD-put-in}
 use Rattle.muxer.specs.Writer.{fresh, outcome, hasPrelude, fits, askOpen, headerQuestions, packetQuestions, trailerQuestions, headerCall, packetCall, trailerCall}
-use Rattle.prelude.specs.Prelude.{preludeLen}
+use Rattle.prelude.specs.Layout.{preludeLen}
 use Rattle.muxer.specs.declared.Settings.{Settings}
 use Rattle.muxer.specs.declared.Writer.{Writer}
 use Rattle.recording.specs.Written.{WriteCall, header, packet, trailer, writeStep, kept, acceptedCalls, writtenFile, Completed}

@@ -1,42 +1,73 @@
-use mathlib.Core.Path.{sym, _∙_}
+-- The count of the preamble read from the part of the payload that is there, by `count-read`; past the file's end there is none.
+use Prim.Native.Nat.{_+_, _-_, min}
+use mathlib.Core.Path.{_≡_, sym, ap, _∙_}
 use native.Mathlib.Omega.{arith}
-use Rattle.demuxer.proofs.Bodies.{count-short, count-cut, count-there}
+use lib.ListN.{length}
+use Rattle.parse.specs.Preamble.{saidPreamble}
+use Rattle.demuxer.proofs.Bodies.{count-past, count-read}
 use borrow.Author.Needs.{needs}
 use Rattle.demuxer.proofs.head.sample_count.Statement.{statement}
 use Rattle.demuxer.proofs.head.sample_count.Tie as tie
-use Rattle.demuxer.proofs.head.sample_count.Reads as reads
-use Rattle.demuxer.proofs.head.sample_count.Lts as lts
-use Rattle.fields.proofs.read_u32_le.Reads as read-u32-le-reads
 
--- src/head.rt:76:9
 returns : tie.Need-returns
-returns c = let a = c .before .before .args in sym (count-short (a .file .now) (a .start) (a .size) (c .if1 .taken))
+returns c = let a = c .before .before .args in sym (count-past (a .file .now) (a .start) (a .size) (c .if1 .taken))
 
--- src/head.rt:79:9
+sub-min : tie.Need-sub-min
+sub-min c = search needs
+
+min-requires : tie.Need-min-requires
+min-requires c κs = search needs
+
+add-end : tie.Need-add-end
+add-end c = search needs
+
+sub-parse : tie.Need-sub-parse
+sub-parse c = search needs
+
+part-parse-start : tie.Need-part-parse-start
+part-parse-start c = search needs
+
+part-parse-end : tie.Need-part-parse-end
+part-parse-end c = search needs
+
+parse-requires : tie.Need-parse-requires
+parse-requires c κs = search needs
+
+enum-known-preamble : tie.Need-enum-known-preamble
+enum-known-preamble c = search needs
+
+enum-told : tie.Need-enum-told
+enum-told c = search needs
+
 returns-2 : tie.Need-returns-2
-returns-2 c = let a = c .before .before .before .args in sym (count-cut (a .file .now) (a .start) (a .size) (omega arith))
+returns-2 c =
+    let a = c .before .before .before .before .before .before .before .before .args in
+    let m = c .before .before .before .before .before .min in
+    let e : a .start + m .result - a .start ≡ min (length (a .file .now) - a .start) (a .size) = omega (arith, m .ensures) in
+    count-read (a .file .now) (a .start) (a .size) e
+    (sym (ap saidPreamble (c .before .preamble .given .1)) ∙ c .before .before .before .parse .ensures)
 
--- src/head.rt:81:8
-sub-if3 : tie.Need-sub-if3
-sub-if3 c = search needs
-
--- src/head.rt:82:9
 returns-3 : tie.Need-returns-3
-returns-3 c = let a = c .before .before .before .before .args in sym (count-cut (a .file .now) (a .start) (a .size) (omega arith))
-
--- src/head.rt:84:31
-add-read-u32-le : tie.Need-add-read-u32-le
-add-read-u32-le c = search needs
-
--- src/head.rt:84:5
-read-u32-le-requires : tie.Need-read-u32-le-requires
-read-u32-le-requires c κs = search needs
-
--- src/head.rt:72:1
-returns-4 : tie.Need-returns-4
-returns-4 c = let a = c .before .before .before .before .before .args in c .read-u32-le .ensures ∙ sym (count-there (a .file .now) (a .start) (a .size) (omega arith) (omega arith))
+returns-3 c =
+    let a = c .before .before .before .before .before .before .before .args in
+    let m = c .before .before .before .before .min in
+    let e : a .start + m .result - a .start ≡ min (length (a .file .now) - a .start) (a .size) = omega (arith, m .ensures) in
+    count-read (a .file .now) (a .start) (a .size) e
+    (sym (ap saidPreamble (c .enum-told .given .1)) ∙ c .before .before .parse .ensures)
 
 pub sample-count-spec : {M : Type 1} → statement M
 sample-count-spec =
     tie.close
-    (tie.spec returns returns-2 sub-if3 returns-3 add-read-u32-le read-u32-le-requires returns-4)
+    (tie.spec
+    returns
+    sub-min
+    min-requires
+    add-end
+    sub-parse
+    part-parse-start
+    part-parse-end
+    parse-requires
+    enum-known-preamble
+    enum-told
+    returns-2
+    returns-3)
