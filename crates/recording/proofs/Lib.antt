@@ -7,4 +7,6 @@ pub mod Readings
 pub mod Lists
 pub mod CheckParts
 pub mod Writes
+pub mod Runs
+pub mod ByValue
 pub mod Together

@@ -14,9 +14,9 @@ use Rattle.muxer.specs.Writer.{fresh, outcome, hasPrelude, fits, askOpen, heade
 use Rattle.prelude.specs.Prelude.{preludeLen}
 use Rattle.muxer.specs.declared.Settings.{Settings}
 use Rattle.muxer.specs.declared.Writer.{Writer}
-use Rattle.recording.specs.Written.{WriteCall, header, packet, trailer, writeStep, kept, acceptedCalls, writtenFile, Completed}
+use Rattle.recording.specs.Written.{WriteCall, header, packet, trailer, writeStep, kept, acceptedCalls, writtenFile, Held, WritesAgreed}
 use Rattle.recording.proofs.Writes.{writes}
-use Rattle.replay_writes.specs.Replay.{verdict, verdictsOf, acceptedIn, writerAfter, bufferAfter, Run, WritesAgreed, Closed}
+use Rattle.replay_writes.specs.Replay.{verdict, verdictsOf, acceptedIn, Run}
 
 -- ---- no refusal has the number 0
 
@@ -84,46 +84,11 @@ accepted-told xs at w buf (c ∷ cs) h =
 
 -- ---- the file
 
-file-is : (w : Writer) (buf : List ℕ) (calls : List WriteCall) → take (writerAfter w buf calls .written) (bufferAfter w buf calls) ≡ writtenFile w buf calls
-unfolding writerAfter bufferAfter writtenFile
-file-is w buf [] = refl
-file-is w buf (c ∷ cs) = file-is (writeStep w buf c .writer) (writeStep w buf c .buffer) cs
-
--- what the fields of settings hold
-pub record Held (s : Settings) : Type 0 where
-  pub width-held : s .width < 4294967296
-  pub height-held : s .height < 4294967296
-  pub fps-held : s .fps < 4294967296
-  pub rate-held : s .rate < 4294967296
-
-completed : (s : Settings) (buf : List ℕ) (calls : List WriteCall) → Held s → Closed s (acceptedCalls (fresh s) buf calls) → Completed s buf calls
-completed s buf calls h c =
-    record {
-      proper =
-          record {
-            width-held = h .width-held;
-            height-held = h .height-held;
-            fps-held = h .fps-held;
-            fps-positive = c .fps-positive;
-            rate-held = h .rate-held;
-            one-channel = c .one-channel;
-          };
-      begun = c .begun;
-      ended = c .ended;
-    }
-
 -- the claim, of what a run leaves
 pub agreed : (s : Settings) → Held s → (buf verdicts : List ℕ) (calls : List WriteCall) (n : ℕ) {w : Writer} {after left : List ℕ}
     → length calls ≡ n → Run s buf verdicts calls n w after left → WritesAgreed s (take (w .written) after) (acceptedIn left 0 calls)
 agreed s held buf verdicts calls n {w} {after} {left} count run =
     let said : acceptedIn left 0 calls ≡ acceptedCalls (fresh s) buf calls =
     ap (λ (ys : List ℕ). acceptedIn ys 0 calls) (run .verdicts-are) ∙ accepted-told verdicts 0 (fresh s) buf calls (omega (arith, run .room, count)) in
-    let file : take (w .written) after ≡ writtenFile (fresh s) buf calls =
-    (λ i. take (run .writer-is i .written) (run .buffer-is i)) ∙ file-is (fresh s) buf calls in
-    rw (said, file)
-    (record {
-      finish = λ c.
-          let f = writes .finish s buf calls (completed s buf calls held c) in
-          record { chunks = f .chunks; finished = f .finished; drains = f .drains };
-      apart = λ c t other more d e. writes .apart s t buf other calls more (completed s buf calls held c) d e;
-    })
+    let file : take (w .written) after ≡ writtenFile (fresh s) buf calls = λ i. take (run .writer-is i .written) (run .buffer-is i) in
+    rw (said, file) (writes s buf calls held)

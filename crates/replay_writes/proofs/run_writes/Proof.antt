@@ -5,7 +5,8 @@ use native.Mathlib.Omega.{arith}
 use borrow.Author.Needs.{needs}
 use lib.ListN.{length}
 use Rattle.replay_writes.specs.Replay.{Lists, callsOf}
-use Rattle.replay_writes.proofs.Verdicts.{Held, agreed}
+use Rattle.recording.specs.Written.{Held}
+use Rattle.replay_writes.proofs.Verdicts.{agreed}
 use Rattle.replay_writes.proofs.Going.{Going, going-first, going-on, going-last, length-calls, unequal-streams, unequal-starts, unequal-lens, equal-all}
 use Rattle.replay_writes.proofs.run_writes.Statement.{statement}
 use Rattle.replay_writes.proofs.run_writes.Tie as tie
