@@ -33,8 +33,7 @@ use Rattle.muxer.specs.declared.Writer.{Writer}
 use Rattle.recording.specs.Machine.{Call, read, seek, CallAnswer, readAnswer, call}
 use Rattle.recording.specs.Machine as machine
 use Rattle.recording.specs.Written.{WriteCall, header, packet, trailer, writeStep, Held, WritesAgreed}
-use Rattle.recording.specs.Lists.{Ran, no-call, one-more, Lent, Writing, acceptedBy}
-use Rattle.recording.specs.Lists as lists
+use Rattle.recording.specs.Lists.{Ran, no-call, one-more, Calling, Lent, Writing, acceptedBy}
 use Rattle.recording.proofs.Numbers.{Numbered, ask-numbered, then-numbered, ReadNumbered, read-numbered, seek-numbered, step-numbered}
 use Rattle.recording.proofs.Runs.{every-list}
 use Rattle.words.specs.Out.{Says, outOf, checked, unlessRefused, readWords}
@@ -108,13 +107,13 @@ module _ {n : ℕ} (answer : Walker → Answer (List ℕ)) (next : Walker → Wa
   walker-left : after ≡ walkerWords (next w)
   walker-left = h .walker ∙ ap (λ d. unlessRefused ws d (λ w. walkerWords (next w))) (spells ws w i)
 
-walks : (file table : List ℕ) → lists.Walks Stands (WalkerStep file table) file table
+calling : (file table : List ℕ) → Calling Stands (WalkerStep file table) file table
 unfolding call
-walks file table s c answer next w i (reads number out h) = (
+calling file table s c answer next w i (reads number out h) = (
   ap readAnswer (read-told file w (walker-says (nextAnswer file) (nextWalker file) w i h)),
   (walker-left (nextAnswer file) (nextWalker file) w i h, next-spelt file w (i .1)),
 )
-walks file table s (seek stream request) answer next w i (seeks number out h) = (
+calling file table s (seek stream request) answer next w i (seeks number out h) = (
   ap machine.seekAnswer (seek-told _ (walker-says (seekAnswer table stream request) (seekWalker table stream request) w i h)),
   (walker-left (seekAnswer table stream request) (seekWalker table stream request) w i h, subst Spelt (sym (seek-stays table stream request w)) (i .1)),
 )
@@ -252,7 +251,7 @@ through-words =
       fresh-walker = refl;
       fresh-writer = λ s. refl;
       reads-and-seeks = λ file cs all fin table own calls said last ran.
-          let a = every-list .reads-and-seeks Stands (WalkerStep file table) file cs all fin table own (walks file table) _ calls said last (refl, refl) ran in
+          let a = every-list .reads-and-seeks Stands (WalkerStep file table) file cs all fin table own (calling file table) _ calls said last (refl, refl) ran in
           (a .0, (spells last (a .0) (a .1 .0), a .1 .1));
       writing = written;
       walkers-run = λ file table ws calls. every-list .runs (WalkerStep file table) (walker-runs file table) ws calls;

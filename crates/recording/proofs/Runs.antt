@@ -8,18 +8,18 @@ use Rattle.demuxer.specs.declared.walker.Walker.{Walker}
 use Rattle.muxer.specs.declared.Writer.{Writer}
 use Rattle.recording.specs.Machine.{Call, CallAnswer, call, answers, after}
 use Rattle.recording.specs.Written.{WriteCall, writeStep, kept, acceptedCalls, writerAfter, bufferAfter}
-use Rattle.recording.specs.Lists.{Ran, no-call, one-more, Walks, Lent, Writing, acceptedBy, EveryList}
+use Rattle.recording.specs.Lists.{Ran, no-call, one-more, Calling, Lent, Writing, acceptedBy, EveryList}
 use Rattle.recording.proofs.Lists.{reads-and-seeks}
 use Rattle.recording.proofs.Writes.{writes}
 
 module _ {S : Type 0} (Stands : S → Walker → Type 0) (Step : S → Call → CallAnswer → S → Type 0) (file table : List ℕ)
-    (walks : Walks Stands Step file table) where
+    (calling : Calling Stands Step file table) where
   follows : {s last : S} {calls : List Call} {said : List CallAnswer} (w : Walker) → Stands s w → Ran Step s calls said last
       → (said ≡ answers file table w calls) × Stands last (after file table w calls)
   unfolding answers after
   follows w i no-call = (refl, i)
   follows w i (one-more {c = c} step rest) =
-      let t = walks _ _ _ _ w i step in
+      let t = calling _ _ _ _ w i step in
       let r = follows (call file table w c .walker) (t .1) rest in
       ((λ j. t .0 j ∷ r .0 j), r .1)
 
@@ -46,8 +46,8 @@ every-run Step step s (c ∷ calls) =
 pub every-list : EveryList
 every-list =
     record {
-      reads-and-seeks = λ Stands Step file cs all fin table own walks s calls said last i ran.
-          let f = follows Stands Step file table walks _ i ran in
+      reads-and-seeks = λ Stands Step file cs all fin table own calling s calls said last i ran.
+          let f = follows Stands Step file table calling _ i ran in
           (_, (f .1, rw (f .0) (reads-and-seeks file cs all fin table own calls)));
       writes = λ Stands Step writing settings held s calls said last i ran.
           let f = writes-follow Stands Step writing _ i ran in

@@ -24,8 +24,8 @@ pub data Ran {S C A : Type 0} (Step : S → C → A → S → Type 0) : S → Li
       → Step s c answer next → Ran Step next calls said last → Ran Step s (c ∷ calls) (answer ∷ said) last
 
 -- a step is 01's call: on a state that stands for a walker it answers what the call does, and leaves a state that stands for its walker
-abbrev pub Walks : {S : Type 0} → (S → Walker → Type 0) → (S → Call → CallAnswer → S → Type 0) → List ℕ → List ℕ → Type 0
-Walks {S} Stands Step file table =
+abbrev pub Calling : {S : Type 0} → (S → Walker → Type 0) → (S → Call → CallAnswer → S → Type 0) → List ℕ → List ℕ → Type 0
+Calling {S} Stands Step file table =
     (s : S) (c : Call) (answer : CallAnswer) (next : S) (w : Walker) → Stands s w → Step s c answer next
     → (answer ≡ call file table w c .answer) × Stands next (call file table w c .walker)
 
@@ -50,7 +50,7 @@ acceptedBy (c ∷ calls) (answer ∷ said) = kept answer c (acceptedBy calls sai
 -- Demand 3 over any state, of what the calls answered and left
 pub record EveryList : Type 1 where
   pub reads-and-seeks : {S : Type 0} (Stands : S → Walker → Type 0) (Step : S → Call → CallAnswer → S → Type 0) (file : List ℕ) (cs : List Chunk)
-      → Bytes file → Finished file cs → (table : List ℕ) → OwnIndex file table → Walks Stands Step file table
+      → Bytes file → Finished file cs → (table : List ℕ) → OwnIndex file table → Calling Stands Step file table
       → (s : S) (calls : List Call) (said : List CallAnswer) (last : S) → Stands s demuxer.fresh → Ran Step s calls said last
       → (w : Walker) × (Stands last w × Agreed file cs calls w said)
   pub writes : {S : Type 0} (Stands : S → Writer → Type 0) (Step : Lent S → WriteCall → Answer Unit → Lent S → Type 0) → Writing Stands Step
