@@ -1,10 +1,10 @@
 -- The methods are 01's calls by their contracts: a reader stands for its walker as long as it holds the file, and a writer for its state.
 -- Assumes nothing.
-use mathlib.Core.Path.{_≡_, refl, ap, _∙_}
+use mathlib.Core.Path.{_≡_, refl, ap}
 use Prim.Native.Nat.{ℕ}
 use mathlib.Core.List.{List}
 use denote.Ref.{RefT, now}
-use Rattle.demuxer.specs.Read.{Reading, readOf}
+use Rattle.demuxer.specs.Read.{Reading}
 use Rattle.demuxer.specs.declared.walker.Walker.{Walker}
 use Rattle.seek.specs.Seek.{Seeking}
 use Rattle.muxer.specs.declared.Writer.{Writer}
@@ -33,7 +33,8 @@ through-methods =
     record {
       reads-and-seeks = λ file cs all fin table own calls said last ran.
           let a =
-          every-list .reads-and-seeks (Stands file) (DemuxerStep table) (now file) cs all fin table own (calling file table) _ calls said last (refl, refl) ran in
+          every-list .reads-and-seeks (Stands file) (DemuxerStep table) (now file) cs all fin table own (calling file table) _ calls said last
+          (refl, refl) ran in
           rw (a .1 .0 .1) (a .1 .1);
       writing = λ s held m new buf calls said last ran.
           let a = every-list .writes _ MuxerStep writing s held _ calls said last new ran in

@@ -1,9 +1,9 @@
 -- What a call's number and words say is what the call by value answers: a read names its payload by where it stands and how long it is, and
 -- no refusal has the number 0. Assumes nothing.
-use mathlib.Core.Path.{_≡_, refl, sym, ap, subst, _∙_}
+use mathlib.Core.Path.{_≡_, refl, sym, ap}
 use Prim.Native.Nat.{ℕ, _+_, _≤_}
 use mathlib.Core.Bool.{Bool, true, false, cond}
-use mathlib.Core.List.{List, [], _∷_}
+use mathlib.Core.List.{List}
 use mathlib.Core.Option.{Option, none, some}
 use native.Mathlib.Omega.{arith}
 use borrow.Author.Tests.{le-leb, ne-eqb, leb-true}
@@ -23,7 +23,7 @@ use Rattle.demuxer.specs.declared.walker.Walker.{Walker}
 use Rattle.words.specs.Out.{Says, given, checked, shownDuration, readWords}
 use Rattle.words.specs.State.{word}
 use Rattle.capi.specs.Calls.{single}
-use Rattle.capi.specs.Lists.{answered, shownIn, readIn}
+use Rattle.capi.specs.Lists.{answered, readIn}
 
 -- ---- a packet, by the place and the length of its payload
 
@@ -87,7 +87,8 @@ module _ (file : List ℕ) (w : Walker) where
   read-named = go (withinLimit file) (inRange (w .position)) (w .end)
     where
       go : (a b e : Bool)
-          → AnswerNamed file w (cond a (cond b (cond e (record { answer = End; walker = w }) (readChunk file w)) (refuse 32 0 w)) (refuse 10 0 w) .answer)
+          → AnswerNamed file w
+          (cond a (cond b (cond e (record { answer = End; walker = w }) (readChunk file w)) (refuse 32 0 w)) (refuse 10 0 w) .answer)
       go false b e = tt
       go true false e = tt
       go true true true = tt
@@ -95,7 +96,8 @@ module _ (file : List ℕ) (w : Walker) where
 
   -- ---- a read
 
-  read-says : (a : ReadAnswer) → AnswerNamed file w a → (number : ℕ) (out : List ℕ) → Says 7 (readWords w a) number out → readIn file number out ≡ a
+  read-says : (a : ReadAnswer) → AnswerNamed file w a → (number : ℕ) (out : List ℕ) → Says 7 (readWords w a) number out
+      → readIn file number out ≡ a
   unfolding AnswerNamed readIn shownOf payloadOf
   read-says (packet p) n number out s =
       rw (s .number, s .words, le-leb _ _ (n .inside))
@@ -105,7 +107,8 @@ module _ (file : List ℕ) (w : Walker) where
       let d : number ≡ 0 → ⊥ = s .zero in
       rw (ne-eqb number 0 d) (λ i. read.refused (record { number = s .number i; place = word (s .words i) 0 }))
 
-  pub read-told : {number : ℕ} {out : List ℕ} → Says 7 (readWords w (readOf file w .answer)) number out → readIn file number out ≡ readOf file w .answer
+  pub read-told : {number : ℕ} {out : List ℕ} → Says 7 (readWords w (readOf file w .answer)) number out
+      → readIn file number out ≡ readOf file w .answer
   read-told s = read-says _ read-named _ _ s
 
 -- ---- a seek and a writing call

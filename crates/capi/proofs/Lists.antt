@@ -3,7 +3,7 @@
 use mathlib.Core.Path.{_≡_, refl, sym, ap, subst, _∙_}
 use Prim.Native.Nat.{ℕ, _+_}
 use mathlib.Core.Bool.{Bool, true, false, cond}
-use mathlib.Core.List.{List, [], _∷_, List·Memᴰ, List·Memᴰ·not-nil}
+use mathlib.Core.List.{List, [], List·Memᴰ, List·Memᴰ·not-nil}
 use mathlib.Core.Option.{Option, none, some}
 use native.Mathlib.Omega.{arith}
 use borrow.Author.Tests.{ne-eqb, leb-true}
@@ -76,7 +76,8 @@ module _ (file : List ℕ) (w : Walker) (s : Spelt (w .trailer)) where
   next-spelt = go (withinLimit file) (inRange (w .position)) (w .end) refl
     where
       go : (a b e : Bool) → inRange (w .position) ≡ b
-          → Spelt (cond a (cond b (cond e (record { answer = End; walker = w }) (readChunk file w)) (refuse 32 0 w)) (refuse 10 0 w) .walker .trailer)
+          → Spelt
+          (cond a (cond b (cond e (record { answer = End; walker = w }) (readChunk file w)) (refuse 32 0 w)) (refuse 10 0 w) .walker .trailer)
       go false b e r = s
       go true false e r = s
       go true true true r = s
@@ -115,7 +116,10 @@ calling file table s c answer next w i (reads number out h) = (
 )
 calling file table s (seek stream request) answer next w i (seeks number out h) = (
   ap machine.seekAnswer (seek-told _ (walker-says (seekAnswer table stream request) (seekWalker table stream request) w i h)),
-  (walker-left (seekAnswer table stream request) (seekWalker table stream request) w i h, subst Spelt (sym (seek-stays table stream request w)) (i .1)),
+  (
+    walker-left (seekAnswer table stream request) (seekWalker table stream request) w i h,
+    subst Spelt (sym (seek-stays table stream request w)) (i .1),
+  ),
 )
 
 -- ---- a writer whose settings are in their fields' ranges
@@ -142,7 +146,10 @@ writing s c answer next w i (writes number out h) =
     let e : writerOf (s .state) ≡ accepted w = ap writerOf (i .0) ∙ words-stand .writer-back w (i .1) in (
       write-told _ (subst (λ (d : Answer Writer). Says 1 (andThen d (λ w. checked (step (s .buffer) c w .answer))) number out) e (h .says)),
       (
-        (h .writer ∙ ap (λ d. unlessRefused (s .state) d (λ w. writerWords (step (s .buffer) c w .writer))) e, write-legal w (s .buffer) c (i .1)),
+        (
+          h .writer ∙ ap (λ d. unlessRefused (s .state) d (λ w. writerWords (step (s .buffer) c w .writer))) e,
+          write-legal w (s .buffer) c (i .1),
+        ),
         h .buffer ∙ ap (λ d. unlessRefused (s .buffer) d (λ w. step (s .buffer) c w .buffer)) e,
       ),
     )
@@ -169,7 +176,8 @@ none-accepted l no-call = refl
 none-accepted {s} l (one-more (writes {c = c} number out h) rest) =
     let e : writerOf (s .state) ≡ refused (numbered 1 0) = rw l in
     let a : answered number out tt ≡ refused (numbered 1 0) =
-    write-told (refused (numbered 1 0)) (subst (λ (d : Answer Writer). Says 1 (andThen d (λ w. checked (step (s .buffer) c w .answer))) number out) e (h .says)) in
+    write-told (refused (numbered 1 0))
+    (subst (λ (d : Answer Writer). Says 1 (andThen d (λ w. checked (step (s .buffer) c w .answer))) number out) e (h .says)) in
     let k = h .writer ∙ ap (λ d. unlessRefused (s .state) d (λ w. writerWords (step (s .buffer) c w .writer))) e in
     rw a (none-accepted (ap settingsLegal k ∙ l) rest)
 
@@ -181,10 +189,12 @@ nothing-written s file said e =
     }
 
 written : (s : Settings) (buf : List ℕ) (calls : List WriteCall) (said : List (Answer Unit)) (last : Lent (List ℕ))
-    → Ran WriterStep (startsWith s buf) calls said last → WritesAgreed s (take (word (last .state) 7) (last .buffer)) (acceptedBy calls said)
+    → Ran WriterStep (startsWith s buf) calls said last
+    → WritesAgreed s (take (word (last .state) 7) (last .buffer)) (acceptedBy calls said)
 written s buf calls said last ran = go _ refl
   where
-    go : (b : Bool) → settingsLegal (writerWords (muxer.fresh s)) ≡ b → WritesAgreed s (take (word (last .state) 7) (last .buffer)) (acceptedBy calls said)
+    go : (b : Bool) → settingsLegal (writerWords (muxer.fresh s)) ≡ b
+        → WritesAgreed s (take (word (last .state) 7) (last .buffer)) (acceptedBy calls said)
     go false l = nothing-written s _ _ (none-accepted l ran)
     go true l =
         let a = every-list .writes StandsFor WriterStep writing s (legal-held s l) _ calls said last (refl, l) ran in
@@ -213,7 +223,10 @@ walker-runs file table ws read = (
   _,
   reads _ _
       (record {
-        says = said-of 7 _ (then-numbered (walkerOf ws) (nextAnswer file) (walker-numbered ws) (λ w. read-words-numbered w (readOf file w .answer) (read-numbered file w)));
+        says =
+            said-of 7 _
+            (then-numbered (walkerOf ws) (nextAnswer file) (walker-numbered ws)
+            (λ w. read-words-numbered w (readOf file w .answer) (read-numbered file w)));
         walker = refl;
       }),
 )
@@ -225,7 +238,8 @@ walker-runs file table ws (seek stream request) = (
         says =
             said-of 2 _
             (then-numbered (walkerOf ws) (seekAnswer table stream request) (walker-numbered ws)
-            (λ w. then-numbered (seekOf table w stream request .answer) (λ x. accepted (single x)) (seek-numbered table w stream request) (λ _. tt)));
+            (λ w.
+            then-numbered (seekOf table w stream request .answer) (λ x. accepted (single x)) (seek-numbered table w stream request) (λ _. tt)));
         walker = refl;
       }),
 )
@@ -251,7 +265,9 @@ through-words =
       fresh-walker = refl;
       fresh-writer = λ s. refl;
       reads-and-seeks = λ file cs all fin table own calls said last ran.
-          let a = every-list .reads-and-seeks Stands (WalkerStep file table) file cs all fin table own (calling file table) _ calls said last (refl, refl) ran in
+          let a =
+          every-list .reads-and-seeks Stands (WalkerStep file table) file cs all fin table own (calling file table) _ calls said last
+          (refl, refl) ran in
           (a .0, (spells last (a .0) (a .1 .0), a .1 .1));
       writing = written;
       walkers-run = λ file table ws calls. every-list .runs (WalkerStep file table) (walker-runs file table) ws calls;

@@ -58,7 +58,8 @@ step buf c w = writeStep w buf c
 
 pub data WriterStep : Lent (List ℕ) → WriteCall → Answer Unit → Lent (List ℕ) → Type 0 where
   writes : {s next : Lent (List ℕ)} {c : WriteCall} (number : ℕ) (out : List ℕ)
-      → Writes (step (s .buffer) c) (s .state) (s .buffer) number out (next .state) (next .buffer) → WriterStep s c (answered number out tt) next
+      → Writes (step (s .buffer) c) (s .state) (s .buffer) number out (next .state) (next .buffer)
+      → WriterStep s c (answered number out tt) next
 
 -- ---- lists of them
 
@@ -74,7 +75,8 @@ pub record ThroughWords : Type 0 where
       → writerWords (muxer.fresh s) ≡ s .width ∷ s .height ∷ s .fps ∷ s .rate ∷ s .channels ∷ 0 ∷ 0 ∷ 0 ∷ 0 ∷ []
   -- the last walker is the one that the last words spell
   pub reads-and-seeks : (file : List ℕ) (cs : List Chunk) → Bytes file → Finished file cs → (table : List ℕ) → OwnIndex file table
-      → (calls : List Call) (said : List CallAnswer) (last : List ℕ) → Ran (WalkerStep file table) (walkerWords demuxer.fresh) calls said last
+      → (calls : List Call) (said : List CallAnswer) (last : List ℕ)
+      → Ran (WalkerStep file table) (walkerWords demuxer.fresh) calls said last
       → (w : Walker) × ((walkerOf last ≡ accepted w) × Agreed file cs calls w said)
   -- "The file is the first writer[7] bytes of the buffer." Of settings outside their fields' ranges no call is accepted.
   pub writing : (s : Settings) (buf : List ℕ) (calls : List WriteCall) (said : List (Answer Unit)) (last : Lent (List ℕ))

@@ -36,7 +36,8 @@ pub ask-numbered : {A : Type 0} (b : Bool) (n place : ℕ) (rest : Answer A) →
 ask-numbered true n place rest h k = k
 ask-numbered false n place rest h k = λ e. omega arith
 
-pub then-numbered : {A B : Type 0} (a : Answer A) (rest : A → Answer B) → Numbered a → ((x : A) → Numbered (rest x)) → Numbered (andThen a rest)
+pub then-numbered : {A B : Type 0} (a : Answer A) (rest : A → Answer B) → Numbered a → ((x : A) → Numbered (rest x))
+    → Numbered (andThen a rest)
 then-numbered (accepted x) rest k h = h x
 then-numbered (refused r) rest k h = k
 
@@ -73,14 +74,16 @@ read-numbered file w =
 entries-numbered : (place : ℕ) (es : List ChunkIndexEntry) → Numbered (goodEntries place es)
 unfolding goodEntries
 entries-numbered place [] = tt
-entries-numbered place (e ∷ es) = ask-numbered (goodEntry e) 43 place (goodEntries (place + entryLen) es) (omega arith) (entries-numbered (place + entryLen) es)
+entries-numbered place (e ∷ es) =
+    ask-numbered (goodEntry e) 43 place (goodEntries (place + entryLen) es) (omega arith) (entries-numbered (place + entryLen) es)
 
 seek-asks : (table : List ℕ) (w : Walker) (stream : ℕ) → Numbered (seekQuestions table w stream)
 unfolding seekQuestions
 seek-asks table w stream =
     ask-numbered (eqb (length table % entryLen) 0) 41 0 _ (omega arith)
     (ask-numbered (leb stream 1) 42 0 _ (omega arith)
-    (then-numbered (goodEntries 0 (entriesOf table)) (λ _. ask (inRange (w .position)) 32 0 (accepted tt)) (entries-numbered 0 (entriesOf table))
+    (then-numbered (goodEntries 0 (entriesOf table)) (λ _. ask (inRange (w .position)) 32 0 (accepted tt))
+    (entries-numbered 0 (entriesOf table))
     (λ _. ask-numbered (inRange (w .position)) 32 0 (accepted tt) (omega arith) tt)))
 
 pub seek-numbered : (table : List ℕ) (w : Walker) (stream : ℕ) (request : ℤ) → Numbered (seekOf table w stream request .answer)
@@ -94,7 +97,8 @@ seek-numbered table w stream request = go (seekQuestions table w stream) (find s
 
 -- ---- a writing call
 
-outcome-numbered : (q : Answer Unit) (w : Writer) (buf : List ℕ) (next : Writer) (after : List ℕ) → Numbered q → Numbered (outcome q w buf next after .answer)
+outcome-numbered : (q : Answer Unit) (w : Writer) (buf : List ℕ) (next : Writer) (after : List ℕ) → Numbered q
+    → Numbered (outcome q w buf next after .answer)
 outcome-numbered (accepted u) w buf next after k = tt
 outcome-numbered (refused r) w buf next after k = k
 
@@ -109,13 +113,15 @@ room-numbered : (b : Bool) (place : ℕ) → Numbered {A = Unit} (ask b 54 place
 room-numbered b place = ask-numbered b 54 place (accepted tt) (omega arith) tt
 
 open-numbered : (w : Writer) (rest : Answer Unit) → Numbered rest → Numbered (askOpen w rest)
-open-numbered w rest n = three (w .begun) (not (w .ended)) (hasPrelude w) 51 55 56 (w .written) rest (omega arith) (omega arith) (omega arith) n
+open-numbered w rest n =
+    three (w .begun) (not (w .ended)) (hasPrelude w) 51 55 56 (w .written) rest (omega arith) (omega arith) (omega arith) n
 
 pub step-numbered : (w : Writer) (buf : List ℕ) (c : WriteCall) → Numbered (writeStep w buf c .answer)
 unfolding writeStep headerCall packetCall trailerCall headerQuestions packetQuestions trailerQuestions
 step-numbered w buf header =
     outcome-numbered (headerQuestions w (length buf)) w buf _ _
-    (three (not (w .begun)) (not (w .ended)) (hasPrelude w) 50 55 56 (w .written) (ask (fits preludeLen (length buf)) 54 (w .written) (accepted tt))
+    (three (not (w .begun)) (not (w .ended)) (hasPrelude w) 50 55 56 (w .written)
+    (ask (fits preludeLen (length buf)) 54 (w .written) (accepted tt))
     (omega arith) (omega arith) (omega arith) (room-numbered (fits preludeLen (length buf)) (w .written)))
 step-numbered w buf (packet payload stream) =
     let n = length payload in
@@ -125,4 +131,5 @@ step-numbered w buf (packet payload stream) =
     (omega arith) (omega arith) (omega arith) tt))
 step-numbered w buf trailer =
     outcome-numbered (trailerQuestions w (length buf)) w buf _ _
-    (open-numbered w (ask (fits (w .written + 8) (length buf)) 54 (w .written) (accepted tt)) (room-numbered (fits (w .written + 8) (length buf)) (w .written)))
+    (open-numbered w (ask (fits (w .written + 8) (length buf)) 54 (w .written) (accepted tt))
+    (room-numbered (fits (w .written + 8) (length buf)) (w .written)))

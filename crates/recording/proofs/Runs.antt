@@ -1,6 +1,6 @@
 -- A list of calls over any state answers and leaves what 01's list of calls does, by one step after the other, so 01's claims hold of it.
 -- Assumes nothing.
-use mathlib.Core.Path.{_≡_, refl, sym, ap, _∙_}
+use mathlib.Core.Path.{_≡_, refl}
 use mathlib.Core.List.{List, [], _∷_}
 use Prim.Native.Nat.{ℕ}
 use Rattle.error.specs.Answer.{Answer}
@@ -25,7 +25,8 @@ module _ {S : Type 0} (Stands : S → Walker → Type 0) (Step : S → Call → 
 
 module _ {S : Type 0} (Stands : S → Writer → Type 0) (Step : Lent S → WriteCall → Answer Unit → Lent S → Type 0)
     (writing : Writing Stands Step) where
-  writes-follow : {s last : Lent S} {calls : List WriteCall} {said : List (Answer Unit)} (w : Writer) → Stands (s .state) w → Ran Step s calls said last
+  writes-follow : {s last : Lent S} {calls : List WriteCall} {said : List (Answer Unit)} (w : Writer) → Stands (s .state) w
+      → Ran Step s calls said last
       → (acceptedBy calls said ≡ acceptedCalls w (s .buffer) calls)
       × (Stands (last .state) (writerAfter w (s .buffer) calls) × (last .buffer ≡ bufferAfter w (s .buffer) calls))
   unfolding acceptedBy acceptedCalls writerAfter bufferAfter

@@ -31,7 +31,7 @@ use Rattle.muxer.proofs.Steps.{Open, HeaderPassed, header-passed}
 use Rattle.muxer.proofs.Writes.{fileOf, preludeFor, outcome-accepted, header-refused, header-accepted, packet-refused, packet-accepted, trailer-refused, trailer-accepted}
 use Rattle.recording.specs.Drain.{drain, drainFrom}
 use Rattle.recording.specs.Grammar.{Passes, Finished}
-use Rattle.recording.specs.Written.{WriteCall, header, packet, trailer, writeStep, kept, acceptedCalls, writerAfter, bufferAfter, writtenFile, Sent, sentBy, sentIn, Held, Closed, Completed, Drains, WritesAgreed, Writes}
+use Rattle.recording.specs.Written.{WriteCall, header, packet, trailer, writeStep, kept, acceptedCalls, writerAfter, bufferAfter, writtenFile, Sent, sentBy, sentIn, Held, Completed, Drains, Writes}
 use Rattle.recording.proofs.Checks.{finished-walk}
 
 -- ---- the run length fits its field
@@ -344,7 +344,8 @@ written : (s : Settings) (buf : List ℕ) (calls : List WriteCall) → Completed
     → Drains (writtenFile (fresh s) buf calls) (acceptedCalls (fresh s) buf calls)
 written s buf calls c =
     let k = c .closed in
-    let l = run s (c .held) (k .fps-positive) (k .one-channel) (fresh s) buf [] calls (idle (record { begun = refl; going = refl; same = refl; none = refl })) (inl (k .ended)) in
+    let i = idle (record { begun = refl; going = refl; same = refl; none = refl }) in
+    let l = run s (c .held) (k .fps-positive) (k .one-channel) (fresh s) buf [] calls i (inl (k .ended)) in
     record { chunks = l .chunks; finished = l .finished; drains = sent-drained 0 0 (l .chunks) ∙ l .sends }
 
 -- the chunks of a walk

@@ -26,7 +26,8 @@ use Rattle.recording.specs.Lists.{Ran, Lent, acceptedBy}
 
 -- `next_packet` and `seek_to_via_index`
 pub data WalkerStep (file table : List ℕ) : Walker → Call → CallAnswer → Walker → Type 0 where
-  reads : {w : Walker} (r : Read) → saidRead file r ≡ readOf file w → WalkerStep file table w read (readAnswer (saidNext file (r .answer))) (r .walker)
+  reads : {w : Walker} (r : Read) → saidRead file r ≡ readOf file w
+      → WalkerStep file table w read (readAnswer (saidNext file (r .answer))) (r .walker)
   seeks : {w : Walker} {stream : ℕ} {request : ℤ} (r : Sought) → saidSought r ≡ seekOf table w stream request
       → WalkerStep file table w (seek stream request) (seekAnswer (saidSeek (r .result))) (r .walker)
 

@@ -8,7 +8,7 @@ use lib.ListN.{getD}
 use Rattle.fields.specs.Le.{Bytes}
 use Rattle.recording.specs.Machine.{call}
 use Rattle.replay.specs.Replay.{callOf, rowOf}
-use mathlib.Core.Path.{_≡_, refl, sym, ap, _∙_}
+use mathlib.Core.Path.{_≡_, refl, ap, _∙_}
 use lib.ListN.{length}
 use Prim.Native.Nat.{_-_}
 use native.Mathlib.Omega.{arith}
@@ -108,7 +108,8 @@ returns-4 : tie.Need-returns-4 Inv-loop μ-loop
 returns-4 c =
     let a = c .before .before .before .before .before .before .before .before .before .before .before .args in
     let run = going-last (a .file .now) (a .table .now) (a .kinds .now) (a .streams .now) (a .requests .now) (length (a .kinds .now)) (c .before .loop .inv) (omega arith) in
-    let all : Bytes (a .file .now) = unfold Bytes in λ k. c .before .before .before .before .before .before .before .before .before .before .shared-slice-known .given k .fits in
+    let all : Bytes (a .file .now) =
+    unfold Bytes in λ k. c .before .before .before .before .before .before .before .before .before .before .shared-slice-known .given k .fits in
     ((equal-all (a .kinds .now) (a .streams .now) (a .requests .now) (omega arith) (omega arith), run), λ cs fin own. agreed _ _ _ _ _ run cs all fin own)
 
 pub run-calls-spec : {M : Type 1} → statement M

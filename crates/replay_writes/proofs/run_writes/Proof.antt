@@ -1,6 +1,6 @@
 -- `replay_writes::run_writes` meets its contracts. The loop's invariant: from the state and the buffer as they are, the calls that are left
 -- give what the whole list gives from the fresh state; so demand 3 holds of the verdicts and the buffer. Assumes nothing.
-use mathlib.Core.Path.{_≡_, refl}
+use mathlib.Core.Path.{refl}
 use mathlib.Core.List.{List}
 use Prim.Native.Nat.{ℕ, _-_}
 use native.Mathlib.Omega.{arith}
