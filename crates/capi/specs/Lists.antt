@@ -73,7 +73,7 @@ pub record ThroughWords : Type 0 where
   pub fresh-walker : walkerWords demuxer.fresh ≡ 316 ∷ 0 ∷ 0 ∷ 0 ∷ 0 ∷ 0 ∷ 18446744073709551615 ∷ []
   pub fresh-writer : (s : Settings)
       → writerWords (muxer.fresh s) ≡ s .width ∷ s .height ∷ s .fps ∷ s .rate ∷ s .channels ∷ 0 ∷ 0 ∷ 0 ∷ 0 ∷ []
-  -- the last walker is the one that the last words spell
+  -- of every file of bytes, as a lent one is; the last walker is the one that the last words spell
   pub reads-and-seeks : (file : List ℕ) (cs : List Chunk) → Bytes file → Finished file cs → (table : List ℕ) → OwnIndex file table
       → (calls : List Call) (said : List CallAnswer) (last : List ℕ)
       → Ran (WalkerStep file table) (walkerWords demuxer.fresh) calls said last
