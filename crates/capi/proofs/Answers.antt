@@ -1,6 +1,6 @@
 -- What a call's number and words say is what the call by value answers: a read names its payload by where it stands and how long it is, and
 -- no refusal has the number 0. Assumes nothing.
-use mathlib.Core.Path.{_≡_, refl, sym, ap}
+use mathlib.Core.Path.{_≡_, refl, sym, ap, _∙_}
 use Prim.Native.Nat.{ℕ, _+_, _≤_}
 use mathlib.Core.Bool.{Bool, true, false, cond}
 use mathlib.Core.List.{List}
@@ -18,12 +18,13 @@ use Rattle.demuxer.specs.Read.{ReadAnswer, packet, End, Reading, refuse, payloa
 use Rattle.demuxer.specs.Read as read
 use Rattle.demuxer.specs.declared.head.Head.{Head}
 use Rattle.demuxer.specs.declared.head.Head.the-variants as head
+use Rattle.demuxer.specs.declared.packet.Packet.{Packet}
 use Rattle.demuxer.specs.declared.packet.PacketDuration.the-variants.{Ticks, None}
 use Rattle.demuxer.specs.declared.walker.Walker.{Walker}
 use Rattle.words.specs.Out.{Says, given, checked, shownDuration, readWords}
 use Rattle.words.specs.State.{word}
 use Rattle.capi.specs.Calls.{single}
-use Rattle.capi.specs.Lists.{answered, readIn}
+use Rattle.capi.specs.Lists.{answered, packetIn, readIn}
 
 -- ---- a packet, by the place and the length of its payload
 
@@ -96,12 +97,23 @@ module _ (file : List ℕ) (w : Walker) where
 
   -- ---- a read
 
+  payload-named : (p : Shown) → Named file w p → (q : Packet) → q .start ≡ w .position .cursor + 8 → q .len ≡ length (p .payload)
+      → payloadOf file q ≡ p .payload
+  unfolding payloadOf
+  payload-named p n q a b = rw (a, b, le-leb _ _ (n .inside)) (sym (n .payload-is))
+
   read-says : (a : ReadAnswer) → AnswerNamed file w a → (number : ℕ) (out : List ℕ) → Says 7 (readWords w a) number out
       → readIn file number out ≡ a
-  unfolding AnswerNamed readIn shownOf payloadOf
+  unfolding AnswerNamed readIn shownOf
   read-says (packet p) n number out s =
-      rw (s .number, s .words, le-leb _ _ (n .inside))
-      (λ i. packet (record { stream = p .stream; payload = sym (n .payload-is) i; stamp = p .stamp; duration = n .duration-is i }))
+      let first : word out 1 ≡ 1 = ap (λ (l : List ℕ). word l 1) (s .words) in
+      let start : word out 3 ≡ w .position .cursor + 8 = ap (λ (l : List ℕ). word l 3) (s .words) in
+      let len : word out 4 ≡ length (p .payload) = ap (λ (l : List ℕ). word l 4) (s .words) in
+      let payload : payloadOf file (packetIn out) ≡ p .payload = payload-named p n (packetIn out) start len in
+      let duration : ticks (durationOf (word out 6)) ≡ p .duration =
+      ap (λ (l : List ℕ). ticks (durationOf (word l 6))) (s .words) ∙ n .duration-is in
+      rw (s .number, first)
+      (λ i. packet (record { stream = word (s .words i) 2; payload = payload i; stamp = word (s .words i) 5; duration = duration i }))
   read-says End n number out s = rw (s .number, s .words) refl
   read-says (read.refused r) n number out s =
       let d : number ≡ 0 → ⊥ = s .zero in

@@ -9,9 +9,10 @@ use lib.IntN.{ℤ}
 use lib.ListN.{take}
 use Rattle.error.specs.Answer.{Answer, accepted, numbered, ask}
 use Rattle.fields.specs.Le.{Bytes}
-use Rattle.demuxer.specs.Packet.{Shown, durationOf, shownOf}
+use Rattle.demuxer.specs.Packet.{durationOf, shownOf}
 use Rattle.demuxer.specs.Read.{ReadAnswer, packet, End}
 use Rattle.demuxer.specs.Read as demuxer
+use Rattle.demuxer.specs.declared.packet.Packet.{Packet}
 use Rattle.demuxer.specs.declared.walker.Walker.{Walker}
 use Rattle.chunk_index.specs.Chunks.{Chunk}
 use Rattle.muxer.specs.Writer.{Outcome}
@@ -33,14 +34,14 @@ abbrev pub answered : {A : Type 0} → ℕ → List ℕ → A → Answer A
 answered number out value = ask (eqb number 0) number (word out 0) (accepted value)
 
 -- "place, 1 for a packet or 0 for End, stream .., offset and length of the payload in the file, stamp, duration (0: none)"
-abbrev pub shownIn : List ℕ → List ℕ → Shown
-shownIn file out =
-    shownOf file
-    (record { stream = word out 2; start = word out 3; len = word out 4; stamp = word out 5; duration = durationOf (word out 6) })
+abbrev pub packetIn : List ℕ → Packet
+packetIn out = record { stream = word out 2; start = word out 3; len = word out 4; stamp = word out 5; duration = durationOf (word out 6) }
 
 unfoldable pub readIn : List ℕ → ℕ → List ℕ → ReadAnswer
 readIn file number out =
-    cond (eqb number 0) (cond (eqb (word out 1) 0) End (packet (shownIn file out))) (demuxer.refused (numbered number (word out 0)))
+    cond (eqb number 0)
+    (cond (eqb (word out 1) 0) End (packet (shownOf file (packetIn out))))
+    (demuxer.refused (numbered number (word out 0)))
 
 -- ---- one call: what its function's contract says that it returns and leaves, and what that says
 
