@@ -33,8 +33,8 @@ through-methods =
     record {
       reads-and-seeks = λ file cs all fin table own calls said last ran.
           let a =
-          every-list .reads-and-seeks (Stands file) (DemuxerStep table) (now file) cs all fin table own (calling file table) _ calls said last
-          (refl, refl) ran in
+          every-list .reads-and-seeks (Stands file) (DemuxerStep table) (now file) cs all fin table own (calling file table) _
+          calls said last (refl, refl) ran in
           rw (a .1 .0 .1) (a .1 .1);
       writing = λ s held m new buf calls said last ran.
           let a = every-list .writes _ MuxerStep writing s held _ calls said last new ran in

@@ -77,7 +77,9 @@ module _ (file : List ℕ) (w : Walker) (s : Spelt (w .trailer)) where
     where
       go : (a b e : Bool) → inRange (w .position) ≡ b
           → Spelt
-          (cond a (cond b (cond e (record { answer = End; walker = w }) (readChunk file w)) (refuse 32 0 w)) (refuse 10 0 w) .walker .trailer)
+          (cond a (cond b (cond e (record { answer = End; walker = w }) (readChunk file w)) (refuse 32 0 w)) (refuse 10 0 w)
+          .walker
+          .trailer)
       go false b e r = s
       go true false e r = s
       go true true true r = s
@@ -239,7 +241,8 @@ walker-runs file table ws (seek stream request) = (
             said-of 2 _
             (then-numbered (walkerOf ws) (seekAnswer table stream request) (walker-numbered ws)
             (λ w.
-            then-numbered (seekOf table w stream request .answer) (λ x. accepted (single x)) (seek-numbered table w stream request) (λ _. tt)));
+            then-numbered (seekOf table w stream request .answer) (λ x. accepted (single x)) (seek-numbered table w stream request)
+            (λ _. tt)));
         walker = refl;
       }),
 )

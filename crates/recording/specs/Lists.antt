@@ -50,7 +50,8 @@ acceptedBy (c ∷ calls) (answer ∷ said) = kept answer c (acceptedBy calls sai
 -- Demand 3 over any state, of what the calls answered and left
 pub record EveryList : Type 1 where
   pub reads-and-seeks : {S : Type 0} (Stands : S → Walker → Type 0) (Step : S → Call → CallAnswer → S → Type 0)
-      → (file : List ℕ) (cs : List Chunk) → Bytes file → Finished file cs → (table : List ℕ) → OwnIndex file table → Calling Stands Step file table
+      → (file : List ℕ) (cs : List Chunk) → Bytes file → Finished file cs → (table : List ℕ) → OwnIndex file table
+      → Calling Stands Step file table
       → (s : S) (calls : List Call) (said : List CallAnswer) (last : S) → Stands s demuxer.fresh → Ran Step s calls said last
       → (w : Walker) × (Stands last w × Agreed file cs calls w said)
   pub writes : {S : Type 0} (Stands : S → Writer → Type 0) (Step : Lent S → WriteCall → Answer Unit → Lent S → Type 0) → Writing Stands Step
