@@ -1,3 +1,4 @@
 pub mod Walks
 pub mod Readers
 pub mod Writers
+pub mod Lists

@@ -1,3 +1,4 @@
 pub mod Progress
 pub mod Reader
 pub mod Writer
+pub mod Lists

@@ -1,19 +1,21 @@
--- Calls through words are 01's calls. Assumes nothing.
+-- Calls through words are 01's calls: the words spell a state before each call and after it, and what the call returns and writes says what
+-- the call by value answers; so 01's claims hold of every list of them. Assumes nothing.
 use mathlib.Core.Path.{_≡_, refl, sym, ap, subst, _∙_}
 use Prim.Native.Nat.{ℕ, _+_}
 use mathlib.Core.Bool.{Bool, true, false, cond}
-use mathlib.Core.List.{List, [], _∷_}
+use mathlib.Core.List.{List, [], List·Memᴰ, List·Memᴰ·not-nil}
 use mathlib.Core.Option.{Option, none, some}
 use native.Mathlib.Omega.{arith}
-use borrow.Author.Tests.{ne-eqb}
+use borrow.Author.Tests.{ne-eqb, leb-true}
 use lib.Dec.{leb}
 use lib.IntN.{ℤ}
-use lib.ListN.{length}
-use Rattle.error.specs.Answer.{Answer, accepted, refused, andThen}
+use lib.ListN.{length, take}
+use Rattle.error.specs.Answer.{Answer, accepted, refused, numbered, numberOf, andThen}
+use Rattle.error.proofs.Answers.{both}
 use Rattle.fields.specs.File.{withinLimit}
 use Rattle.demuxer.specs.Position.{inRange}
 use Rattle.demuxer.specs.Head.{headAt}
-use Rattle.demuxer.specs.Read.{End, Reading, refuse, readFrame, readSound, readHead, readChunk, readOf}
+use Rattle.demuxer.specs.Read.{ReadAnswer, End, Reading, refuse, readFrame, readSound, readHead, readChunk, readOf}
 use Rattle.demuxer.specs.Read as demuxer
 use Rattle.demuxer.proofs.Ranges.{range-facts}
 use Rattle.demuxer.specs.declared.head.Head.{Head}
@@ -24,17 +26,23 @@ use Rattle.demuxer.specs.declared.walker.Trailer.the-variants.{At}
 use Rattle.demuxer.specs.declared.walker.Walker.{Walker}
 use Rattle.chunk_index.specs.Entry.{entriesOf}
 use Rattle.seek.specs.Seek.{seekQuestions, find, landed, soughtFrom, seekOf}
-use Rattle.muxer.specs.Writer.{Outcome, outcome, headerQuestions, headerCall, packetQuestions, packetCall, trailerQuestions, trailerCall}
+use Rattle.muxer.specs.Writer.{outcome, headerQuestions, headerCall, packetQuestions, packetCall, trailerQuestions, trailerCall}
 use Rattle.muxer.specs.Writer as muxer
+use Rattle.muxer.specs.declared.Settings.{Settings}
 use Rattle.muxer.specs.declared.Writer.{Writer}
-use Rattle.recording.specs.Machine.{Call, read, seek, call, after}
-use Rattle.recording.specs.Written.{WriteCall, header, packet, trailer, writeStep, kept, acceptedCalls, writtenFile}
-use Rattle.words.specs.Out.{unlessRefused}
-use Rattle.words.specs.State.{word, notMet, trailerOf, trailerWord, walkerOf, walkerWords, settingsLegal, writerOf, writerWords}
+use Rattle.recording.specs.Machine.{Call, read, seek, CallAnswer, readAnswer, call}
+use Rattle.recording.specs.Machine as machine
+use Rattle.recording.specs.Written.{WriteCall, header, packet, trailer, writeStep, Held, WritesAgreed}
+use Rattle.recording.specs.Lists.{Ran, no-call, one-more, Calling, Lent, Writing, acceptedBy}
+use Rattle.recording.proofs.Numbers.{Numbered, ask-numbered, then-numbered, ReadNumbered, read-numbered, seek-numbered, step-numbered}
+use Rattle.recording.proofs.Runs.{every-list}
+use Rattle.words.specs.Out.{Says, outOf, checked, unlessRefused, readWords}
+use Rattle.words.specs.State.{word, notMet, trailerOf, trailerWord, walkerLegal, walkerOf, walkerWords, settingsLegal, writerLegal, writerOf, writerWords}
 use Rattle.words.proofs.States.{words-stand}
-use Rattle.capi.specs.Calls.{walkerAfter, nextWalker, seekWalker, writerAfter, bufferAfter}
-use Rattle.capi.specs.Lists.{walkerAfterAll, step, acceptedThrough, fileThrough, ThroughWords}
+use Rattle.capi.specs.Calls.{single, Walks, nextAnswer, nextWalker, seekAnswer, seekWalker, writerAfter, bufferAfter}
+use Rattle.capi.specs.Lists.{answered, WalkerStep, reads, seeks, step, WriterStep, writes, startsWith, ThroughWords}
 use Rattle.capi.proofs.Laws.{either}
+use Rattle.capi.proofs.Answers.{read-told, seek-told, write-told}
 
 -- ---- a walker that its words spell
 
@@ -68,7 +76,10 @@ module _ (file : List ℕ) (w : Walker) (s : Spelt (w .trailer)) where
   next-spelt = go (withinLimit file) (inRange (w .position)) (w .end) refl
     where
       go : (a b e : Bool) → inRange (w .position) ≡ b
-          → Spelt (cond a (cond b (cond e (record { answer = End; walker = w }) (readChunk file w)) (refuse 32 0 w)) (refuse 10 0 w) .walker .trailer)
+          → Spelt
+          (cond a (cond b (cond e (record { answer = End; walker = w }) (readChunk file w)) (refuse 32 0 w)) (refuse 10 0 w)
+          .walker
+          .trailer)
       go false b e r = s
       go true false e r = s
       go true true true r = s
@@ -83,67 +94,185 @@ seek-stays table stream request w = go (seekQuestions table w stream) (find stre
     go (accepted u) (some p) = refl
     go (refused r) f = refl
 
--- the words after one call are those of its walker
-walker-step : (w : Walker) (next : Walker → Walker) → Spelt (w .trailer) → walkerAfter next (walkerWords w) ≡ walkerWords (next w)
-walker-step w next s = ap (λ d. unlessRefused (walkerWords w) d (λ w. walkerWords (next w))) (words-stand .walker-back w s)
+-- the words of a walker that they spell
+abbrev Stands : List ℕ → Walker → Type 0
+Stands ws w = (ws ≡ walkerWords w) × Spelt (w .trailer)
 
-walkers-through : (file table : List ℕ) (w : Walker) (calls : List Call) → Spelt (w .trailer)
-    → walkerOf (walkerAfterAll file table (walkerWords w) calls) ≡ accepted (after file table w calls)
-unfolding walkerAfterAll after call
-walkers-through file table w [] s = words-stand .walker-back w s
-walkers-through file table w (read ∷ cs) s =
-    ap (λ ws. walkerOf (walkerAfterAll file table ws cs)) (walker-step w (nextWalker file) s)
-    ∙ walkers-through file table (nextWalker file w) cs (next-spelt file w s)
-walkers-through file table w (seek stream request ∷ cs) s =
-    ap (λ ws. walkerOf (walkerAfterAll file table ws cs)) (walker-step w (seekWalker table stream request) s)
-    ∙ walkers-through file table (seekWalker table stream request w) cs
-    (subst (λ (t : Trailer). Spelt t) (sym (seek-stays table stream request w)) s)
+spells : (ws : List ℕ) (w : Walker) → Stands ws w → walkerOf ws ≡ accepted w
+spells ws w i = ap walkerOf (i .0) ∙ words-stand .walker-back w (i .1)
+
+-- what a call over them says and leaves
+module _ {n : ℕ} (answer : Walker → Answer (List ℕ)) (next : Walker → Walker) {ws : List ℕ} {number : ℕ} {out after : List ℕ} (w : Walker)
+    (i : Stands ws w) (h : Walks n answer next ws number out after) where
+  walker-says : Says n (answer w) number out
+  walker-says = subst (λ (d : Answer Walker). Says n (andThen d answer) number out) (spells ws w i) (h .says)
+
+  walker-left : after ≡ walkerWords (next w)
+  walker-left = h .walker ∙ ap (λ d. unlessRefused ws d (λ w. walkerWords (next w))) (spells ws w i)
+
+calling : (file table : List ℕ) → Calling Stands (WalkerStep file table) file table
+unfolding call
+calling file table s c answer next w i (reads number out h) = (
+  ap readAnswer (read-told file w (walker-says (nextAnswer file) (nextWalker file) w i h)),
+  (walker-left (nextAnswer file) (nextWalker file) w i h, next-spelt file w (i .1)),
+)
+calling file table s (seek stream request) answer next w i (seeks number out h) = (
+  ap machine.seekAnswer (seek-told _ (walker-says (seekAnswer table stream request) (seekWalker table stream request) w i h)),
+  (
+    walker-left (seekAnswer table stream request) (seekWalker table stream request) w i h,
+    subst Spelt (sym (seek-stays table stream request w)) (i .1),
+  ),
+)
 
 -- ---- a writer whose settings are in their fields' ranges
 
-abbrev Held : Writer → Type 0
-Held w = settingsLegal (writerWords w) ≡ true
+abbrev Legal : Writer → Type 0
+Legal w = settingsLegal (writerWords w) ≡ true
 
-outcome-held : (q : Answer Unit) (w next : Writer) (buf after : List ℕ) → Held w → Held next → Held (outcome q w buf next after .writer)
-outcome-held (accepted u) w next buf after h n = n
-outcome-held (refused r) w next buf after h n = h
+outcome-legal : (q : Answer Unit) (w next : Writer) (buf after : List ℕ) → Legal w → Legal next → Legal (outcome q w buf next after .writer)
+outcome-legal (accepted u) w next buf after h n = n
+outcome-legal (refused r) w next buf after h n = h
 
-write-held : (w : Writer) (buf : List ℕ) (c : WriteCall) → Held w → Held (writeStep w buf c .writer)
+write-legal : (w : Writer) (buf : List ℕ) (c : WriteCall) → Legal w → Legal (writeStep w buf c .writer)
 unfolding settingsLegal writeStep headerCall packetCall trailerCall
-write-held w buf header h = outcome-held (headerQuestions w (length buf)) w _ buf _ h h
-write-held w buf (packet payload stream) h = outcome-held (packetQuestions w (length payload) stream (length buf)) w _ buf _ h h
-write-held w buf trailer h = outcome-held (trailerQuestions w (length buf)) w _ buf _ h h
+write-legal w buf header h = outcome-legal (headerQuestions w (length buf)) w _ buf _ h h
+write-legal w buf (packet payload stream) h = outcome-legal (packetQuestions w (length payload) stream (length buf)) w _ buf _ h h
+write-legal w buf trailer h = outcome-legal (trailerQuestions w (length buf)) w _ buf _ h h
 
-module _ (w : Writer) (call : Writer → Outcome) (h : Held w) where
-  writer-step : writerAfter call (writerWords w) ≡ writerWords (call w .writer)
-  writer-step = ap (λ d. unlessRefused (writerWords w) d (λ w. writerWords (call w .writer))) (words-stand .writer-back w h)
+-- the words of a writer that they spell
+abbrev StandsFor : List ℕ → Writer → Type 0
+StandsFor ws w = (ws ≡ writerWords w) × Legal w
 
-  buffer-step : (buf : List ℕ) → bufferAfter call (writerWords w) buf ≡ call w .buffer
-  buffer-step buf = ap (λ d. unlessRefused buf d (λ w. call w .buffer)) (words-stand .writer-back w h)
+writing : Writing StandsFor WriterStep
+writing s c answer next w i (writes number out h) =
+    let e : writerOf (s .state) ≡ accepted w = ap writerOf (i .0) ∙ words-stand .writer-back w (i .1) in (
+      write-told _ (subst (λ (d : Answer Writer). Says 1 (andThen d (λ w. checked (step (s .buffer) c w .answer))) number out) e (h .says)),
+      (
+        (
+          h .writer ∙ ap (λ d. unlessRefused (s .state) d (λ w. writerWords (step (s .buffer) c w .writer))) e,
+          write-legal w (s .buffer) c (i .1),
+        ),
+        h .buffer ∙ ap (λ d. unlessRefused (s .buffer) d (λ w. step (s .buffer) c w .buffer)) e,
+      ),
+    )
 
-  answer-step : andThen (writerOf (writerWords w)) (λ w. call w .answer) ≡ call w .answer
-  answer-step = ap (λ d. andThen d (λ w. call w .answer)) (words-stand .writer-back w h)
+-- legal settings are held by their fields
+legal-held : (s : Settings) → Legal (muxer.fresh s) → Held s
+unfolding settingsLegal
+legal-held s l =
+    let a = both _ _ l in
+    let b = both _ _ (a .0) in
+    let c = both _ _ (b .0) in
+    let d = both _ _ (c .0) in
+    let f = leb-true (s .width) 4294967295 (d .0) in
+    let g = leb-true (s .height) 4294967295 (d .1) in
+    let h = leb-true (s .fps) 4294967295 (c .1) in
+    let k = leb-true (s .rate) 4294967295 (b .1) in
+    record { width-held = omega arith; height-held = omega arith; fps-held = omega arith; rate-held = omega arith }
 
-accepted-through : (w : Writer) (buf : List ℕ) (calls : List WriteCall) → Held w
-    → acceptedThrough (writerWords w) buf calls ≡ acceptedCalls w buf calls
-unfolding acceptedThrough acceptedCalls
-accepted-through w buf [] h = refl
-accepted-through w buf (c ∷ cs) h =
-    (λ i. kept (answer-step w (step buf c) h i) c (acceptedThrough (writer-step w (step buf c) h i) (buffer-step w (step buf c) h buf i) cs))
-    ∙ ap (kept (writeStep w buf c .answer) c) (accepted-through (writeStep w buf c .writer) (writeStep w buf c .buffer) cs (write-held w buf c h))
+-- of others no call is accepted
+none-accepted : {s last : Lent (List ℕ)} {calls : List WriteCall} {said : List (Answer Unit)} → settingsLegal (s .state) ≡ false
+    → Ran WriterStep s calls said last → acceptedBy calls said ≡ []
+unfolding acceptedBy writerLegal
+none-accepted l no-call = refl
+none-accepted {s} l (one-more (writes {c = c} number out h) rest) =
+    let e : writerOf (s .state) ≡ refused (numbered 1 0) = rw l in
+    let a : answered number out tt ≡ refused (numbered 1 0) =
+    write-told (refused (numbered 1 0))
+    (subst (λ (d : Answer Writer). Says 1 (andThen d (λ w. checked (step (s .buffer) c w .answer))) number out) e (h .says)) in
+    let k = h .writer ∙ ap (λ d. unlessRefused (s .state) d (λ w. writerWords (step (s .buffer) c w .writer))) e in
+    rw a (none-accepted (ap settingsLegal k ∙ l) rest)
 
-file-through : (w : Writer) (buf : List ℕ) (calls : List WriteCall) → Held w → fileThrough (writerWords w) buf calls ≡ writtenFile w buf calls
-unfolding fileThrough writtenFile
-file-through w buf [] h = refl
-file-through w buf (c ∷ cs) h =
-    (λ i. fileThrough (writer-step w (step buf c) h i) (buffer-step w (step buf c) h buf i) cs)
-    ∙ file-through (writeStep w buf c .writer) (writeStep w buf c .buffer) cs (write-held w buf c h)
+nothing-written : (s : Settings) (file : List ℕ) (said : List WriteCall) → said ≡ [] → WritesAgreed s file said
+nothing-written s file said e =
+    record {
+      finish = λ k. absurd (List·Memᴰ·not-nil (subst (λ (l : List WriteCall). List·Memᴰ header l) e (k .begun)));
+      apart = λ k. absurd (List·Memᴰ·not-nil (subst (λ (l : List WriteCall). List·Memᴰ header l) e (k .begun)));
+    }
+
+written : (s : Settings) (buf : List ℕ) (calls : List WriteCall) (said : List (Answer Unit)) (last : Lent (List ℕ))
+    → Ran WriterStep (startsWith s buf) calls said last
+    → WritesAgreed s (take (word (last .state) 7) (last .buffer)) (acceptedBy calls said)
+written s buf calls said last ran = go _ refl
+  where
+    go : (b : Bool) → settingsLegal (writerWords (muxer.fresh s)) ≡ b
+        → WritesAgreed s (take (word (last .state) 7) (last .buffer)) (acceptedBy calls said)
+    go false l = nothing-written s _ _ (none-accepted l ran)
+    go true l =
+        let a = every-list .writes StandsFor WriterStep writing s (legal-held s l) _ calls said last (refl, l) ran in
+        rw (a .1 .0 .0) (a .1 .1)
+
+-- ---- every call has an answer
+
+said-of : (n : ℕ) (a : Answer (List ℕ)) → Numbered a → Says n a (numberOf a) (outOf n a)
+said-of n (accepted x) k = record { number = refl; words = refl; zero = λ _. tt }
+said-of n (refused r) k = record { number = refl; words = refl; zero = k }
+
+walker-numbered : (ws : List ℕ) → Numbered (walkerOf ws)
+walker-numbered ws = ask-numbered (walkerLegal ws) 1 0 _ (omega arith) tt
+
+writer-numbered : (ws : List ℕ) → Numbered (writerOf ws)
+writer-numbered ws = ask-numbered (writerLegal ws) 1 0 _ (omega arith) tt
+
+read-words-numbered : (w : Walker) (a : ReadAnswer) → ReadNumbered a → Numbered (readWords w a)
+read-words-numbered w (demuxer.packet p) k = tt
+read-words-numbered w End k = tt
+read-words-numbered w (demuxer.refused r) k = k
+
+walker-runs : (file table ws : List ℕ) (c : Call) → (answer : CallAnswer) × (next : List ℕ) × WalkerStep file table ws c answer next
+walker-runs file table ws read = (
+  _,
+  _,
+  reads _ _
+      (record {
+        says =
+            said-of 7 _
+            (then-numbered (walkerOf ws) (nextAnswer file) (walker-numbered ws)
+            (λ w. read-words-numbered w (readOf file w .answer) (read-numbered file w)));
+        walker = refl;
+      }),
+)
+walker-runs file table ws (seek stream request) = (
+  _,
+  _,
+  seeks _ _
+      (record {
+        says =
+            said-of 2 _
+            (then-numbered (walkerOf ws) (seekAnswer table stream request) (walker-numbered ws)
+            (λ w.
+            then-numbered (seekOf table w stream request .answer) (λ x. accepted (single x)) (seek-numbered table w stream request)
+            (λ _. tt)));
+        walker = refl;
+      }),
+)
+
+writer-runs : (s : Lent (List ℕ)) (c : WriteCall) → (answer : Answer Unit) × (next : Lent (List ℕ)) × WriterStep s c answer next
+writer-runs s c = (
+  _,
+  record { state = writerAfter (step (s .buffer) c) (s .state); buffer = bufferAfter (step (s .buffer) c) (s .state) (s .buffer) },
+  writes _ _
+      (record {
+        says =
+            said-of 1 _
+            (then-numbered (writerOf (s .state)) (λ w. checked (step (s .buffer) c w .answer)) (writer-numbered (s .state))
+            (λ w. then-numbered (step (s .buffer) c w .answer) (λ _. accepted []) (step-numbered w (s .buffer) c) (λ _. tt)));
+        writer = refl;
+        buffer = refl;
+      }),
+)
 
 pub through-words : ThroughWords
 through-words =
     record {
       fresh-walker = refl;
       fresh-writer = λ s. refl;
-      walkers = λ file table calls. walkers-through file table demuxer.fresh calls refl;
-      writers = λ s buf calls h. (accepted-through (muxer.fresh s) buf calls h, file-through (muxer.fresh s) buf calls h);
+      reads-and-seeks = λ file cs all fin table own calls said last ran.
+          let a =
+          every-list .reads-and-seeks Stands (WalkerStep file table) file cs all fin table own (calling file table) _ calls said last
+          (refl, refl) ran in
+          (a .0, (spells last (a .0) (a .1 .0), a .1 .1));
+      writing = written;
+      walkers-run = λ file table ws calls. every-list .runs (WalkerStep file table) (walker-runs file table) ws calls;
+      writers-run = λ s calls. every-list .runs WriterStep writer-runs s calls;
     }

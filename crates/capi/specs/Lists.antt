@@ -1,51 +1,90 @@
--- Lists of calls through words, each of which gets the words that the last one left. Assumes nothing.
+-- Lists of calls through words, each of which gets the words that the last one left, and demand 3 of what they return and write.
+-- Assumes nothing.
 use mathlib.Core.Path.{_≡_}
 use Prim.Native.Nat.{ℕ}
-use mathlib.Core.Bool.{true}
+use mathlib.Core.Bool.{cond}
 use mathlib.Core.List.{List, [], _∷_}
+use lib.Dec.{eqb}
+use lib.IntN.{ℤ}
 use lib.ListN.{take}
-use Rattle.error.specs.Answer.{accepted, andThen}
+use Rattle.error.specs.Answer.{Answer, accepted, numbered, ask}
+use Rattle.fields.specs.Le.{Bytes}
+use Rattle.demuxer.specs.Packet.{durationOf, shownOf}
+use Rattle.demuxer.specs.Read.{ReadAnswer, packet, End}
 use Rattle.demuxer.specs.Read as demuxer
+use Rattle.demuxer.specs.declared.packet.Packet.{Packet}
+use Rattle.demuxer.specs.declared.walker.Walker.{Walker}
+use Rattle.chunk_index.specs.Chunks.{Chunk}
 use Rattle.muxer.specs.Writer.{Outcome}
 use Rattle.muxer.specs.Writer as muxer
 use Rattle.muxer.specs.declared.Writer.{Writer}
 use Rattle.muxer.specs.declared.Settings.{Settings}
-use Rattle.recording.specs.Machine.{Call, read, seek, after}
-use Rattle.recording.specs.Written.{WriteCall, writeStep, kept, acceptedCalls, writtenFile}
-use Rattle.words.specs.State.{word, walkerOf, walkerWords, settingsLegal, writerOf, writerWords}
-use Rattle.capi.specs.Calls.{walkerAfter, nextWalker, seekWalker, writerAfter, bufferAfter}
+use Rattle.recording.specs.Grammar.{Finished}
+use Rattle.recording.specs.Machine.{Call, read, seek, CallAnswer, readAnswer, Agreed, OwnIndex}
+use Rattle.recording.specs.Machine as machine
+use Rattle.recording.specs.Written.{WriteCall, writeStep, WritesAgreed}
+use Rattle.recording.specs.Lists.{Ran, Lent, acceptedBy}
+use Rattle.words.specs.State.{word, walkerOf, walkerWords, writerWords}
+use Rattle.capi.specs.Calls.{Walks, nextAnswer, nextWalker, seekAnswer, seekWalker, Writes}
 
--- the walker's words after reads and seeks
-unfoldable pub walkerAfterAll : List ℕ → List ℕ → List ℕ → List Call → List ℕ
-walkerAfterAll file table ws [] = ws
-walkerAfterAll file table ws (read ∷ cs) = walkerAfterAll file table (walkerAfter (nextWalker file) ws) cs
-walkerAfterAll file table ws (seek stream request ∷ cs) = walkerAfterAll file table (walkerAfter (seekWalker table stream request) ws) cs
+-- ---- what a call says to a caller, in the terms of include/amv.h
+
+-- "0: accepted. Any other number: the call is refused"; "out[0] is the place of a refusal"
+abbrev pub answered : {A : Type 0} → ℕ → List ℕ → A → Answer A
+answered number out value = ask (eqb number 0) number (word out 0) (accepted value)
+
+-- "place, 1 for a packet or 0 for End, stream .., offset and length of the payload in the file, stamp, duration (0: none)"
+abbrev pub packetIn : List ℕ → Packet
+packetIn out = record { stream = word out 2; start = word out 3; len = word out 4; stamp = word out 5; duration = durationOf (word out 6) }
+
+unfoldable pub readIn : List ℕ → ℕ → List ℕ → ReadAnswer
+readIn file number out =
+    cond (eqb number 0)
+    (cond (eqb (word out 1) 0) End (packet (shownOf file (packetIn out))))
+    (demuxer.refused (numbered number (word out 0)))
+
+-- ---- one call: what its function's contract says that it returns and leaves, and what that says
+
+pub data WalkerStep (file table : List ℕ) : List ℕ → Call → CallAnswer → List ℕ → Type 0 where
+  reads : {ws next : List ℕ} (number : ℕ) (out : List ℕ) → Walks 7 (nextAnswer file) (nextWalker file) ws number out next
+      → WalkerStep file table ws read (readAnswer (readIn file number out)) next
+  -- "place, the stream's stamp where the walker stands"
+  seeks : {ws next : List ℕ} {stream : ℕ} {request : ℤ} (number : ℕ) (out : List ℕ)
+      → Walks 2 (seekAnswer table stream request) (seekWalker table stream request) ws number out next
+      → WalkerStep file table ws (seek stream request) (machine.seekAnswer (answered number out (word out 1))) next
 
 -- a writing call on the buffer as it is
 abbrev pub step : List ℕ → WriteCall → Writer → Outcome
 step buf c w = writeStep w buf c
 
--- the writing calls that are accepted, and the file that they leave: as much of the buffer as the word of the bytes written says
-unfoldable pub acceptedThrough : List ℕ → List ℕ → List WriteCall → List WriteCall
-acceptedThrough ws buf [] = []
-acceptedThrough ws buf (c ∷ cs) =
-    kept (andThen (writerOf ws) (λ w. step buf c w .answer)) c
-    (acceptedThrough (writerAfter (step buf c) ws) (bufferAfter (step buf c) ws buf) cs)
+pub data WriterStep : Lent (List ℕ) → WriteCall → Answer Unit → Lent (List ℕ) → Type 0 where
+  writes : {s next : Lent (List ℕ)} {c : WriteCall} (number : ℕ) (out : List ℕ)
+      → Writes (step (s .buffer) c) (s .state) (s .buffer) number out (next .state) (next .buffer)
+      → WriterStep s c (answered number out tt) next
 
-unfoldable pub fileThrough : List ℕ → List ℕ → List WriteCall → List ℕ
-fileThrough ws buf [] = take (word ws 7) buf
-fileThrough ws buf (c ∷ cs) = fileThrough (writerAfter (step buf c) ws) (bufferAfter (step buf c) ws buf) cs
+-- ---- lists of them
 
--- Calls through words are 01's calls, so demand 3 holds of them too. From a fresh walker's words every list of reads and seeks leaves the
--- words that spell the walker of 01's list: so each call of a list answers as 01's does. From a fresh writer's words, of settings that
--- their fields hold, every list of writing calls has the same calls accepted, and leaves the same file.
+-- the words that a writer starts with, and the buffer beside them
+abbrev pub startsWith : Settings → List ℕ → Lent (List ℕ)
+startsWith s buf = record { state = writerWords (muxer.fresh s); buffer = buf }
+
+-- Demand 3 of calls in C: of what the numbers and the words of a list of calls say, from the words of fresh states
 pub record ThroughWords : Type 0 where
   -- the words of fresh states, as a caller in C writes them
   pub fresh-walker : walkerWords demuxer.fresh ≡ 316 ∷ 0 ∷ 0 ∷ 0 ∷ 0 ∷ 0 ∷ 18446744073709551615 ∷ []
   pub fresh-writer : (s : Settings)
       → writerWords (muxer.fresh s) ≡ s .width ∷ s .height ∷ s .fps ∷ s .rate ∷ s .channels ∷ 0 ∷ 0 ∷ 0 ∷ 0 ∷ []
-  pub walkers : (file table : List ℕ) (calls : List Call)
-      → walkerOf (walkerAfterAll file table (walkerWords demuxer.fresh) calls) ≡ accepted (after file table demuxer.fresh calls)
-  pub writers : (s : Settings) (buf : List ℕ) (calls : List WriteCall) → settingsLegal (writerWords (muxer.fresh s)) ≡ true
-      → (acceptedThrough (writerWords (muxer.fresh s)) buf calls ≡ acceptedCalls (muxer.fresh s) buf calls)
-      × (fileThrough (writerWords (muxer.fresh s)) buf calls ≡ writtenFile (muxer.fresh s) buf calls)
+  -- of every file of bytes, as a lent one is; the last walker is the one that the last words spell
+  pub reads-and-seeks : (file : List ℕ) (cs : List Chunk) → Bytes file → Finished file cs → (table : List ℕ) → OwnIndex file table
+      → (calls : List Call) (said : List CallAnswer) (last : List ℕ)
+      → Ran (WalkerStep file table) (walkerWords demuxer.fresh) calls said last
+      → (w : Walker) × ((walkerOf last ≡ accepted w) × Agreed file cs calls w said)
+  -- "The file is the first writer[7] bytes of the buffer." Of settings outside their fields' ranges no call is accepted.
+  pub writing : (s : Settings) (buf : List ℕ) (calls : List WriteCall) (said : List (Answer Unit)) (last : Lent (List ℕ))
+      → Ran WriterStep (startsWith s buf) calls said last
+      → WritesAgreed s (take (word (last .state) 7) (last .buffer)) (acceptedBy calls said)
+  -- and every list of calls runs, from any words
+  pub walkers-run : (file table ws : List ℕ) (calls : List Call)
+      → (said : List CallAnswer) × (last : List ℕ) × Ran (WalkerStep file table) ws calls said last
+  pub writers-run : (s : Lent (List ℕ)) (calls : List WriteCall)
+      → (said : List (Answer Unit)) × (last : Lent (List ℕ)) × Ran WriterStep s calls said last

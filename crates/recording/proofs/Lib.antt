@@ -7,5 +7,8 @@ pub mod Readings
 pub mod Lists
 pub mod CheckParts
 pub mod Writes
+pub mod Numbers
+pub mod Runs
+pub mod ByValue
 pub mod Together
 pub mod Sentences

@@ -6,5 +6,5 @@ use Rattle.recording.proofs.Writes.{writes}
 
 pub check-accepts-written : CheckAcceptsWritten
 check-accepts-written s buf calls done =
-    let f = writes .finish s buf calls done in
+    let f = writes s buf calls (done .held) .finish (done .closed) in
     (totalsOf (f .chunks), check-accepts _ (f .chunks) (f .finished))

@@ -31,7 +31,7 @@ use Rattle.muxer.proofs.Steps.{Open, HeaderPassed, header-passed}
 use Rattle.muxer.proofs.Writes.{fileOf, preludeFor, outcome-accepted, header-refused, header-accepted, packet-refused, packet-accepted, trailer-refused, trailer-accepted}
 use Rattle.recording.specs.Drain.{drain, drainFrom}
 use Rattle.recording.specs.Grammar.{Passes, Finished}
-use Rattle.recording.specs.Written.{WriteCall, header, packet, trailer, writeStep, kept, acceptedCalls, writtenFile, Sent, sentBy, sentIn, Proper, Completed, FileOf, Writes}
+use Rattle.recording.specs.Written.{WriteCall, header, packet, trailer, writeStep, kept, acceptedCalls, writerAfter, bufferAfter, writtenFile, Sent, sentBy, sentIn, Held, Completed, Drains, Writes}
 use Rattle.recording.proofs.Checks.{finished-walk}
 
 -- ---- the run length fits its field
@@ -122,24 +122,24 @@ header-fresh w buf e = header-passed w (length buf) (outcome-accepted (headerQue
 false-true : {A : Type 0} {b : Bool} → b ≡ true → b ≡ false → A
 false-true p q = let z : _≡_ {A = ℕ} 0 1 = cc in absurd (omega arith)
 
-module _ (s : Settings) (ok : Proper s) where
+module _ (s : Settings) (held : Held s) (fps-positive : 0 < s .fps) (one-channel : s .channels ≡ 1) where
   abbrev preludeWith : ℕ → List ℕ
   preludeWith duration = preludeBytes (s .width) (s .height) (s .fps) duration (s .rate) (s .channels)
 
   passes-with : (duration : ℕ) → duration < 256 ^ 4 → Passes (preludeWith duration)
   passes-with duration h = (
     _,
-    ap (λ (n : ℕ). strictOf (preludeBytes (s .width) (s .height) (s .fps) duration (s .rate) n)) (ok .one-channel)
+    ap (λ (n : ℕ). strictOf (preludeBytes (s .width) (s .height) (s .fps) duration (s .rate) n)) one-channel
         ∙ strict-built
         (record {
-          width-held = omega (arith, ok .width-held);
-          height-held = omega (arith, ok .height-held);
-          fps-held = omega (arith, ok .fps-held);
+          width-held = omega (arith, held .width-held);
+          height-held = omega (arith, held .height-held);
+          fps-held = omega (arith, held .fps-held);
           duration-held = h;
-          rate-held = omega (arith, ok .rate-held);
+          rate-held = omega (arith, held .rate-held);
           channels-held = omega arith;
         })
-        (ok .fps-positive),
+        fps-positive,
   )
 
   -- the patched file is one with another duration
@@ -333,16 +333,19 @@ module _ (s : Settings) (ok : Proper s) where
 
   run : (w : Writer) (buf : List ℕ) (cs : List Chunk) (calls : List WriteCall) → State w buf cs → Ends w buf calls
       → Left cs (writtenFile w buf calls) (acceptedCalls w buf calls)
-  unfolding writtenFile acceptedCalls
+  unfolding writerAfter bufferAfter acceptedCalls
   run w buf cs [] i (inl m) = absurd (List·Memᴰ·not-nil m)
   run w buf cs [] i (inr e) = record { chunks = []; finished = rw append-nil (is-over w buf cs i e); sends = unfold sentBy in refl }
   run w buf cs (c ∷ calls) i m = one-on w buf cs c calls (writeStep w buf c) i (turn w buf cs c i) m (λ v b ds j h. run v b ds calls j h)
 
 -- ---- demand 3 for the writer
 
-written : (s : Settings) (buf : List ℕ) (calls : List WriteCall) → Completed s buf calls → FileOf s buf calls
+written : (s : Settings) (buf : List ℕ) (calls : List WriteCall) → Completed s buf calls
+    → Drains (writtenFile (fresh s) buf calls) (acceptedCalls (fresh s) buf calls)
 written s buf calls c =
-    let l = run s (c .proper) (fresh s) buf [] calls (idle (record { begun = refl; going = refl; same = refl; none = refl })) (inl (c .ended)) in
+    let k = c .closed in
+    let i = idle (record { begun = refl; going = refl; same = refl; none = refl }) in
+    let l = run s (c .held) (k .fps-positive) (k .one-channel) (fresh s) buf [] calls i (inl (k .ended)) in
     record { chunks = l .chunks; finished = l .finished; drains = sent-drained 0 0 (l .chunks) ∙ l .sends }
 
 -- the chunks of a walk
@@ -361,11 +364,11 @@ one-list file cs ds f g =
     sym (chunks-walked cs 0) ∙ ap chunksIn (sym (finished-walk file cs f) ∙ finished-walk file ds g) ∙ chunks-walked ds 0
 
 pub writes : Writes
-writes =
+writes s buf calls held =
     record {
-      finish = written;
-      apart = λ s t buf other calls more c d e.
-          let f = written s buf calls c in
+      finish = λ k. written s buf calls (record { held = held; closed = k });
+      apart = λ k t other more d e.
+          let f = written s buf calls (record { held = held; closed = k }) in
           let g = written t other more d in
           sym (f .drains) ∙ ap (λ (cs : List Chunk). sentIn (drain cs)) (one-list _ (f .chunks) (g .chunks) (f .finished) (rw e (g .finished))) ∙ g .drains;
     }

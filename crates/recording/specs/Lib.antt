@@ -4,5 +4,7 @@ pub mod Machine
 pub mod Check
 pub mod CheckSteps
 pub mod Written
+pub mod Lists
+pub mod ByValue
 pub mod Together
 pub mod Sentences

@@ -117,11 +117,15 @@ pub record AtChunk (cs : List Chunk) (k : ℕ) (w : Walker) : Type 0 where
   pub samples-is : w .position .samples .0 ≡ samples (take k cs)
   pub blocks-is : w .position .blocks .0 ≡ blocks (take k cs)
 
--- all that is compared, for one list of calls
-pub record Agreement (file : List ℕ) (cs : List Chunk) (table : List ℕ) (calls : List Call) : Type 0 where
-  pub agree : AllAgree (machineSays (drain cs) 0 calls) (answers file table fresh calls)
-  pub left : Left file (after file table fresh calls) (drop (machineAfter (drain cs) 0 calls) (drain cs))
-  pub stands : machineAfter (drain cs) 0 calls < length cs → AtChunk cs (machineAfter (drain cs) 0 calls) (after file table fresh calls)
+-- all that 01 compares, for one list of calls: of the answers that they gave, and of the walker that the last one left
+pub record Agreed (file : List ℕ) (cs : List Chunk) (calls : List Call) (w : Walker) (said : List CallAnswer) : Type 0 where
+  pub agree : AllAgree (machineSays (drain cs) 0 calls) said
+  pub left : Left file w (drop (machineAfter (drain cs) 0 calls) (drain cs))
+  pub stands : machineAfter (drain cs) 0 calls < length cs → AtChunk cs (machineAfter (drain cs) 0 calls) w
+
+-- of the calls themselves, from a fresh walker
+abbrev pub Agreement : List ℕ → List Chunk → List ℕ → List Call → Type 0
+Agreement file cs table calls = Agreed file cs calls (after file table fresh calls) (answers file table fresh calls)
 
 -- "Its own index is the records, all of them and nothing after, that `build_chunk_index` gives for it."
 pub record OwnIndex (file table : List ℕ) : Type 0 where

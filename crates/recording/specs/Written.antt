@@ -32,10 +32,18 @@ unfoldable pub acceptedCalls : Writer → List ℕ → List WriteCall → List W
 acceptedCalls w buf [] = []
 acceptedCalls w buf (c ∷ cs) = kept (writeStep w buf c .answer) c (acceptedCalls (writeStep w buf c .writer) (writeStep w buf c .buffer) cs)
 
+-- the state and the buffer after a list
+unfoldable pub writerAfter : Writer → List ℕ → List WriteCall → Writer
+writerAfter w buf [] = w
+writerAfter w buf (c ∷ cs) = writerAfter (writeStep w buf c .writer) (writeStep w buf c .buffer) cs
+
+unfoldable pub bufferAfter : Writer → List ℕ → List WriteCall → List ℕ
+bufferAfter w buf [] = buf
+bufferAfter w buf (c ∷ cs) = bufferAfter (writeStep w buf c .writer) (writeStep w buf c .buffer) cs
+
 -- "The file is the first bytes-written bytes of one lent buffer, which nothing but these calls changes during a list of them"
-unfoldable pub writtenFile : Writer → List ℕ → List WriteCall → List ℕ
-writtenFile w buf [] = take (w .written) buf
-writtenFile w buf (c ∷ cs) = writtenFile (writeStep w buf c .writer) (writeStep w buf c .buffer) cs
+abbrev pub writtenFile : Writer → List ℕ → List WriteCall → List ℕ
+writtenFile w buf calls = take (writerAfter w buf calls .written) (bufferAfter w buf calls)
 
 -- a packet's stream and payload
 pub record Sent : Type 0 where
@@ -52,31 +60,40 @@ unfoldable pub sentIn : List Shown → List Sent
 sentIn [] = []
 sentIn (p ∷ ps) = record { stream = p .stream; payload = p .payload } ∷ sentIn ps
 
--- settings that their fields hold, with "fps above 0 and one channel"
-pub record Proper (s : Settings) : Type 0 where
+-- settings that their fields hold, as those of code always are
+pub record Held (s : Settings) : Type 0 where
   pub width-held : s .width < 4294967296
   pub height-held : s .height < 4294967296
   pub fps-held : s .fps < 4294967296
-  pub fps-positive : 0 < s .fps
   pub rate-held : s .rate < 4294967296
+
+-- a header and a trailer are among the accepted calls, and the settings have "fps above 0 and one channel"
+pub record Closed (s : Settings) (said : List WriteCall) : Type 0 where
+  pub fps-positive : 0 < s .fps
   pub one-channel : s .channels ≡ 1
+  pub begun : List·Memᴰ header said
+  pub ended : List·Memᴰ trailer said
 
--- a list from a fresh state in which a header and a trailer were accepted
+-- a list from a fresh state in which they were accepted
 pub record Completed (s : Settings) (buf : List ℕ) (calls : List WriteCall) : Type 0 where
-  pub proper : Proper s
-  pub begun : List·Memᴰ header (acceptedCalls (fresh s) buf calls)
-  pub ended : List·Memᴰ trailer (acceptedCalls (fresh s) buf calls)
+  pub held : Held s
+  pub closed : Closed s (acceptedCalls (fresh s) buf calls)
 
--- its file is finished and "drains to the accepted packets' streams and payloads in order"
-pub record FileOf (s : Settings) (buf : List ℕ) (calls : List WriteCall) : Type 0 where
+-- a finished file that "drains to the accepted packets' streams and payloads in order"
+pub record Drains (file : List ℕ) (said : List WriteCall) : Type 0 where
   pub chunks : List Chunk
-  pub finished : Finished (writtenFile (fresh s) buf calls) chunks
-  pub drains : sentIn (drain chunks) ≡ sentBy (acceptedCalls (fresh s) buf calls)
+  pub finished : Finished file chunks
+  pub drains : sentIn (drain chunks) ≡ sentBy said
+
+-- all that 01 claims of a list of writing calls: of the calls that were accepted, and of the file that they left
+pub record WritesAgreed (s : Settings) (file : List ℕ) (said : List WriteCall) : Type 0 where
+  pub finish : Closed s said → Drains file said
+  -- "two such lists whose accepted packets differ never give equal files"
+  pub apart : Closed s said → (t : Settings) (other : List ℕ) (more : List WriteCall) → Completed t other more
+      → file ≡ writtenFile (fresh t) other more → sentBy said ≡ sentBy (acceptedCalls (fresh t) other more)
 
 -- Demand 3 for the writer: every list of header, packet and trailer calls, refused ones included
-pub record Writes : Type 0 where
-  pub finish : (s : Settings) (buf : List ℕ) (calls : List WriteCall) → Completed s buf calls → FileOf s buf calls
-  -- "two such lists whose accepted packets differ never give equal files"
-  pub apart : (s t : Settings) (buf other : List ℕ) (calls more : List WriteCall) → Completed s buf calls → Completed t other more
-      → writtenFile (fresh s) buf calls ≡ writtenFile (fresh t) other more
-      → sentBy (acceptedCalls (fresh s) buf calls) ≡ sentBy (acceptedCalls (fresh t) other more)
+abbrev pub Writes : Type 0
+Writes =
+    (s : Settings) (buf : List ℕ) (calls : List WriteCall) → Held s
+    → WritesAgreed s (writtenFile (fresh s) buf calls) (acceptedCalls (fresh s) buf calls)

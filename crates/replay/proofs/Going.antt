@@ -9,11 +9,11 @@ use Rattle.fields.specs.Le.{Bytes, put}
 use Rattle.fields.proofs.Laws.{length-put, put-put, put-nothing}
 use Rattle.demuxer.specs.Read.{fresh}
 use Rattle.demuxer.specs.declared.walker.Walker.{Walker}
-use Rattle.recording.specs.Machine.{Call, answers, after, call, OwnIndex}
+use Rattle.recording.specs.Machine.{Call, answers, after, call, Agreed, OwnIndex}
 use Rattle.recording.specs.Grammar.{Finished}
 use Rattle.recording.proofs.Lists.{reads-and-seeks}
 use Rattle.chunk_index.specs.Chunks.{Chunk}
-use Rattle.replay.specs.Replay.{callOf, callsFrom, rowWords, rowAnswer, rowOf, rowsOf, rowAt, answersIn, Run, Agreed}
+use Rattle.replay.specs.Replay.{callOf, callsFrom, rowWords, rowAnswer, rowOf, rowsOf, rowAt, answersIn, Run}
 use Rattle.replay.specs.declared.Row.{Row}
 use Rattle.replay.proofs.Laws.{rowAt-put, answersIn-put}
 
@@ -109,6 +109,4 @@ going-last file table kinds streams requests n {before} {rows} {w} {i} {at} g l 
 
 pub agreed : (file table : List ℕ) (calls : List Call) (n : ℕ) {before : List ℕ} (rows : List ℕ) {w : Walker} → Run file table calls n before w rows
     → (cs : List Chunk) → Bytes file → Finished file cs → OwnIndex file table → Agreed file cs calls w (answersIn file rows n)
-agreed file table calls n rows {w} run cs all fin own =
-    let a = reads-and-seeks file cs all fin table own calls in
-    rw (run .walker-is, run .said-are) (record { agree = a .agree; left = a .left; stands = a .stands })
+agreed file table calls n rows run cs all fin own = rw (run .walker-is, run .said-are) (reads-and-seeks file cs all fin table own calls)

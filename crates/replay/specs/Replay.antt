@@ -5,11 +5,11 @@ use mathlib.Core.Bool.{Bool, true, false, cond, _&&_}
 use mathlib.Core.List.{List, [], _∷_, _++_}
 use lib.Dec.{eqb}
 use lib.IntN.{ℤ, pos}
-use lib.ListN.{length, getD, drop}
+use lib.ListN.{length, getD}
 use mathlib.Core.Option.{Option, none, some}
 use Rattle.error.specs.Answer.{Answer, accepted, refused, numbered}
 use Rattle.error.specs.Refusal.{refusalOf}
-use Rattle.fields.specs.Le.{Bytes, put}
+use Rattle.fields.specs.Le.{put}
 use Rattle.demuxer.specs.Packet.{shownOf, ticks}
 use Rattle.demuxer.specs.Read.{ReadAnswer, packet, End, fresh}
 use Rattle.demuxer.specs.declared.walker.NextPacket.{NextPacket}
@@ -20,8 +20,7 @@ use Rattle.demuxer.specs.declared.packet.PacketDuration.{PacketDuration}
 use Rattle.demuxer.specs.declared.packet.PacketDuration.the-variants.{Ticks, None}
 use Rattle.chunk_index.specs.Chunks.{Chunk}
 use Rattle.recording.specs.Grammar.{Finished}
-use Rattle.recording.specs.Drain.{drain}
-use Rattle.recording.specs.Machine.{Call, read, seek, CallAnswer, readAnswer, seekAnswer, call, answers, after, machineSays, machineAfter, AllAgree, Left, AtChunk, OwnIndex}
+use Rattle.recording.specs.Machine.{Call, read, seek, CallAnswer, readAnswer, seekAnswer, call, answers, after, Agreed, OwnIndex}
 use Rattle.replay.specs.declared.Row.{Row}
 use Rattle.replay.specs.declared.Ran.{Ran}
 use Rattle.replay.specs.declared.Ran.the-variants.{Done, Unequal, NoRoom}
@@ -125,16 +124,10 @@ Replayed file table kinds streams requests rows Unequal left = (equal kinds stre
 Replayed file table kinds streams requests rows NoRoom left =
     (equal kinds streams requests ≡ true) × ((length rows < length kinds * 6) × (left ≡ rows))
 
--- all that 01 compares, of a walker and of answers
-pub record Agreed (file : List ℕ) (cs : List Chunk) (calls : List Call) (w : Walker) (said : List CallAnswer) : Type 0 where
-  pub agree : AllAgree (machineSays (drain cs) 0 calls) said
-  pub left : Left file w (drop (machineAfter (drain cs) 0 calls) (drain cs))
-  pub stands : machineAfter (drain cs) 0 calls < length cs → AtChunk cs (machineAfter (drain cs) 0 calls) w
-
 -- demand 3 for reads and seeks, of what the function returns on a finished recording and its own index
 abbrev pub Compared : List ℕ → List ℕ → List ℕ → List ℕ → List ℤ → Ran → List ℕ → Type 0
 Compared file table kinds streams requests (Done w) left =
-    (cs : List Chunk) → Bytes file → Finished file cs → OwnIndex file table
+    (cs : List Chunk) → Finished file cs → OwnIndex file table
     → Agreed file cs (callsOf kinds streams requests) w (answersIn file left (length kinds))
 Compared file table kinds streams requests Unequal left = Unit
 Compared file table kinds streams requests NoRoom left = Unit

@@ -15,8 +15,8 @@ use Rattle.muxer.specs.declared.Settings.{Settings}
 use Rattle.muxer.specs.declared.Writer.{Writer}
 use Rattle.muxer.specs.declared.Wrote.{Wrote}
 use Rattle.muxer.proofs.Writes.{header-length, packet-length, trailer-length}
-use Rattle.recording.specs.Written.{WriteCall, header, packet, trailer, writeStep}
-use Rattle.replay_writes.specs.Replay.{Lists, callOf, callAt, callsFrom, writerAfter, bufferAfter, verdict, verdictsOf, Run, equal}
+use Rattle.recording.specs.Written.{WriteCall, header, packet, trailer, writeStep, writerAfter, bufferAfter}
+use Rattle.replay_writes.specs.Replay.{Lists, callOf, callAt, callsFrom, verdict, verdictsOf, Run, equal}
 
 -- ---- one call, by its kind
 

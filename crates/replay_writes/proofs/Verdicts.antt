@@ -1,67 +1,24 @@
--- What the verdicts say. Assumes nothing.
+-- What the verdicts say: which calls were accepted, by their numbers, and so what 01 claims of the file. Assumes nothing.
 use mathlib.Core.Path.{_≡_, refl, sym, ap, _∙_}
-use Prim.Native.Nat.{ℕ, _+_, _*_, _≤_, _<_}
-use mathlib.Core.Bool.{Bool, true, false, not, cond}
+use Prim.Native.Nat.{ℕ, _+_, _*_, _≤_}
+use mathlib.Core.Bool.{cond}
 use mathlib.Core.List.{List, [], _∷_}
 use native.Mathlib.Omega.{arith}
 use borrow.Author.Tests.{ne-eqb}
-use lib.Dec.{leb, eqb}
+use lib.Dec.{eqb}
 use lib.ListN.{length, getD, take}
-use Rattle.error.specs.Answer.{Answer, accepted, refused, ask, numberOf, placeOf}
+use Rattle.error.specs.Answer.{Answer, accepted, refused, numberOf, placeOf}
 use Rattle.fields.specs.Le.{put}
 use Rattle.fields.proofs.Laws.{put-put, length-put, getD-put-in}
-use Rattle.muxer.specs.Writer.{fresh, outcome, hasPrelude, fits, askOpen, headerQuestions, packetQuestions, trailerQuestions, headerCall, packetCall, trailerCall}
-use Rattle.prelude.specs.Layout.{preludeLen}
+use Rattle.muxer.specs.Writer.{fresh}
 use Rattle.muxer.specs.declared.Settings.{Settings}
 use Rattle.muxer.specs.declared.Writer.{Writer}
-use Rattle.recording.specs.Written.{WriteCall, header, packet, trailer, writeStep, kept, acceptedCalls, writtenFile, Completed}
+use Rattle.recording.specs.Written.{WriteCall, writeStep, kept, acceptedCalls, writtenFile, Held, WritesAgreed}
+use Rattle.recording.proofs.Numbers.{Numbered, step-numbered}
 use Rattle.recording.proofs.Writes.{writes}
-use Rattle.replay_writes.specs.Replay.{verdict, verdictsOf, acceptedIn, writerAfter, bufferAfter, Run, WritesAgreed, Closed}
+use Rattle.replay_writes.specs.Replay.{verdict, verdictsOf, acceptedIn, Run}
 
--- ---- no refusal has the number 0
-
-abbrev Numbered : Answer Unit → Type 0
-Numbered (accepted u) = Unit
-Numbered (refused r) = r .number ≡ 0 → ⊥
-
-ask-numbered : (b : Bool) (n place : ℕ) (rest : Answer Unit) → (n ≡ 0 → ⊥) → Numbered rest → Numbered (ask b n place rest)
-ask-numbered true n place rest h k = k
-ask-numbered false n place rest h k = h
-
-outcome-numbered : (q : Answer Unit) (w : Writer) (buf : List ℕ) (next : Writer) (after : List ℕ) → Numbered q → Numbered (outcome q w buf next after .answer)
-outcome-numbered (accepted u) w buf next after k = tt
-outcome-numbered (refused r) w buf next after k = k
-
--- three questions with numbers from 50 on, and the rest
-three : (a b c : Bool) (k l m place : ℕ) (rest : Answer Unit) → 50 ≤ k → 50 ≤ l → 50 ≤ m → Numbered rest
-    → Numbered (ask a k place (ask b l place (ask c m place rest)))
-three a b c k l m place rest f g h n =
-    ask-numbered a k place (ask b l place (ask c m place rest)) (λ e. omega (arith, f, e))
-    (ask-numbered b l place (ask c m place rest) (λ e. omega (arith, g, e)) (ask-numbered c m place rest (λ e. omega (arith, h, e)) n))
-
-room-numbered : (b : Bool) (place : ℕ) → Numbered (ask b 54 place (accepted tt))
-room-numbered b place = ask-numbered b 54 place (accepted tt) (λ e. omega (arith, e)) tt
-
-open-numbered : (w : Writer) (rest : Answer Unit) → Numbered rest → Numbered (askOpen w rest)
-open-numbered w rest n = three (w .begun) (not (w .ended)) (hasPrelude w) 51 55 56 (w .written) rest (omega arith) (omega arith) (omega arith) n
-
-step-numbered : (w : Writer) (buf : List ℕ) (c : WriteCall) → Numbered (writeStep w buf c .answer)
-unfolding writeStep headerCall packetCall trailerCall headerQuestions packetQuestions trailerQuestions
-step-numbered w buf header =
-    outcome-numbered (headerQuestions w (length buf)) w buf _ _
-    (three (not (w .begun)) (not (w .ended)) (hasPrelude w) 50 55 56 (w .written) (ask (fits preludeLen (length buf)) 54 (w .written) (accepted tt))
-    (omega arith) (omega arith) (omega arith) (room-numbered (fits preludeLen (length buf)) (w .written)))
-step-numbered w buf (packet payload stream) =
-    let n = length payload in
-    outcome-numbered (packetQuestions w n stream (length buf)) w buf _ _
-    (open-numbered w _
-    (three (leb n 4294967295) (leb stream 1) (fits (w .written + (8 + n)) (length buf)) 52 53 54 (w .written) (accepted tt)
-    (omega arith) (omega arith) (omega arith) tt))
-step-numbered w buf trailer =
-    outcome-numbered (trailerQuestions w (length buf)) w buf _ _
-    (open-numbered w (ask (fits (w .written + 8) (length buf)) 54 (w .written) (accepted tt)) (room-numbered (fits (w .written + 8) (length buf)) (w .written)))
-
--- ---- so the verdicts tell which calls were accepted
+-- ---- the verdicts tell which calls were accepted
 
 kept-by-number : (a : Answer Unit) (c : WriteCall) (cs : List WriteCall) → Numbered a → cond (eqb (numberOf a) 0) (c ∷ cs) cs ≡ kept a c cs
 kept-by-number (accepted u) c cs k = refl
@@ -84,46 +41,11 @@ accepted-told xs at w buf (c ∷ cs) h =
 
 -- ---- the file
 
-file-is : (w : Writer) (buf : List ℕ) (calls : List WriteCall) → take (writerAfter w buf calls .written) (bufferAfter w buf calls) ≡ writtenFile w buf calls
-unfolding writerAfter bufferAfter writtenFile
-file-is w buf [] = refl
-file-is w buf (c ∷ cs) = file-is (writeStep w buf c .writer) (writeStep w buf c .buffer) cs
-
--- what the fields of settings hold
-pub record Held (s : Settings) : Type 0 where
-  pub width-held : s .width < 4294967296
-  pub height-held : s .height < 4294967296
-  pub fps-held : s .fps < 4294967296
-  pub rate-held : s .rate < 4294967296
-
-completed : (s : Settings) (buf : List ℕ) (calls : List WriteCall) → Held s → Closed s (acceptedCalls (fresh s) buf calls) → Completed s buf calls
-completed s buf calls h c =
-    record {
-      proper =
-          record {
-            width-held = h .width-held;
-            height-held = h .height-held;
-            fps-held = h .fps-held;
-            fps-positive = c .fps-positive;
-            rate-held = h .rate-held;
-            one-channel = c .one-channel;
-          };
-      begun = c .begun;
-      ended = c .ended;
-    }
-
 -- the claim, of what a run leaves
 pub agreed : (s : Settings) → Held s → (buf verdicts : List ℕ) (calls : List WriteCall) (n : ℕ) {w : Writer} {after left : List ℕ}
     → length calls ≡ n → Run s buf verdicts calls n w after left → WritesAgreed s (take (w .written) after) (acceptedIn left 0 calls)
 agreed s held buf verdicts calls n {w} {after} {left} count run =
     let said : acceptedIn left 0 calls ≡ acceptedCalls (fresh s) buf calls =
     ap (λ (ys : List ℕ). acceptedIn ys 0 calls) (run .verdicts-are) ∙ accepted-told verdicts 0 (fresh s) buf calls (omega (arith, run .room, count)) in
-    let file : take (w .written) after ≡ writtenFile (fresh s) buf calls =
-    (λ i. take (run .writer-is i .written) (run .buffer-is i)) ∙ file-is (fresh s) buf calls in
-    rw (said, file)
-    (record {
-      finish = λ c.
-          let f = writes .finish s buf calls (completed s buf calls held c) in
-          record { chunks = f .chunks; finished = f .finished; drains = f .drains };
-      apart = λ c t other more d e. writes .apart s t buf other calls more (completed s buf calls held c) d e;
-    })
+    let file : take (w .written) after ≡ writtenFile (fresh s) buf calls = λ i. take (run .writer-is i .written) (run .buffer-is i) in
+    rw (said, file) (writes s buf calls held)

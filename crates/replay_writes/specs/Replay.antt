@@ -2,7 +2,7 @@
 use mathlib.Core.Path.{_≡_}
 use Prim.Native.Nat.{ℕ, zero, suc, _+_, _*_, _≤_, _<_}
 use mathlib.Core.Bool.{Bool, true, false, cond, _&&_}
-use mathlib.Core.List.{List, [], _∷_, List·Memᴰ}
+use mathlib.Core.List.{List, [], _∷_}
 use lib.Dec.{eqb}
 use lib.ListN.{length, getD, take}
 use Rattle.error.specs.Answer.{Answer, numberOf, placeOf}
@@ -12,10 +12,7 @@ use Rattle.demuxer.specs.declared.packet.PacketDuration.the-variants.{None}
 use Rattle.muxer.specs.Writer.{fresh}
 use Rattle.muxer.specs.declared.Settings.{Settings}
 use Rattle.muxer.specs.declared.Writer.{Writer}
-use Rattle.chunk_index.specs.Chunks.{Chunk}
-use Rattle.recording.specs.Drain.{drain}
-use Rattle.recording.specs.Grammar.{Finished}
-use Rattle.recording.specs.Written.{WriteCall, header, packet, trailer, writeStep, acceptedCalls, writtenFile, sentBy, sentIn, Completed}
+use Rattle.recording.specs.Written.{WriteCall, header, packet, trailer, writeStep, writerAfter, bufferAfter, WritesAgreed}
 use Rattle.replay_writes.specs.declared.RanWrites.{RanWrites}
 use Rattle.replay_writes.specs.declared.RanWrites.the-variants.{Done, Unequal, NoRoom}
 
@@ -45,15 +42,6 @@ callsFrom l at (suc n) = callAt l at ∷ callsFrom l (at + 1) n
 
 abbrev pub callsOf : Lists → List WriteCall
 callsOf l = callsFrom l 0 (length (l .kinds))
-
--- "each call gets the state that the last one returned": state, buffer and verdicts after a list
-unfoldable pub writerAfter : Writer → List ℕ → List WriteCall → Writer
-writerAfter w buf [] = w
-writerAfter w buf (c ∷ cs) = writerAfter (writeStep w buf c .writer) (writeStep w buf c .buffer) cs
-
-unfoldable pub bufferAfter : Writer → List ℕ → List WriteCall → List ℕ
-bufferAfter w buf [] = buf
-bufferAfter w buf (c ∷ cs) = bufferAfter (writeStep w buf c .writer) (writeStep w buf c .buffer) cs
 
 abbrev pub verdict : Answer Unit → List ℕ
 verdict a = numberOf a ∷ placeOf a ∷ []
@@ -87,27 +75,7 @@ unfoldable pub acceptedIn : List ℕ → ℕ → List WriteCall → List WriteCa
 acceptedIn left at [] = []
 acceptedIn left at (c ∷ cs) = cond (eqb (getD left at 0) 0) (c ∷ acceptedIn left (at + 2) cs) (acceptedIn left (at + 2) cs)
 
--- a finished file that drains to what the calls sent
-pub record Drains (file : List ℕ) (said : List WriteCall) : Type 0 where
-  pub chunks : List Chunk
-  pub finished : Finished file chunks
-  pub drains : sentIn (drain chunks) ≡ sentBy said
-
--- a header and a trailer are among the accepted calls, and the settings have "fps above 0 and one channel"
-pub record Closed (s : Settings) (said : List WriteCall) : Type 0 where
-  pub fps-positive : 0 < s .fps
-  pub one-channel : s .channels ≡ 1
-  pub begun : List·Memᴰ header said
-  pub ended : List·Memᴰ trailer said
-
--- demand 3 for the writer, of a file and of the calls that were accepted
-pub record WritesAgreed (s : Settings) (file : List ℕ) (said : List WriteCall) : Type 0 where
-  pub finish : Closed s said → Drains file said
-  -- "two such lists whose accepted packets differ never give equal files"
-  pub apart : Closed s said → (t : Settings) (other : List ℕ) (more : List WriteCall) → Completed t other more
-      → file ≡ writtenFile (fresh t) other more → sentBy said ≡ sentBy (acceptedCalls (fresh t) other more)
-
--- and of what the function returns: the file is "the first bytes-written bytes" of the buffer
+-- demand 3 for the writer, of what the function returns: the file is "the first bytes-written bytes" of the buffer
 abbrev pub Kept : Lists → Settings → RanWrites → List ℕ → List ℕ → Type 0
 Kept l s (Done w) after left = WritesAgreed s (take (w .written) after) (acceptedIn left 0 (callsOf l))
 Kept l s Unequal after left = Unit

@@ -1,11 +1,14 @@
+-- `replay::run_calls` meets its contracts. The loop's invariant: the rows so far say the answers so far, and the calls that are left give
+-- the rest; so the rows are those of the whole list, of which demand 3 holds. Assumes nothing.
 use mir.Syntax.{w64}
 use mir.ValLaws.{toZ-ofZ}
 use mir.Val.{toZ, ofZ}
 use lib.IntN.{ℤ, pos}
 use lib.ListN.{getD}
+use Rattle.fields.specs.Le.{Bytes}
 use Rattle.recording.specs.Machine.{call}
 use Rattle.replay.specs.Replay.{callOf, rowOf}
-use mathlib.Core.Path.{_≡_, refl, sym, ap, _∙_}
+use mathlib.Core.Path.{_≡_, refl, ap, _∙_}
 use lib.ListN.{length}
 use Prim.Native.Nat.{_-_}
 use native.Mathlib.Omega.{arith}
@@ -26,79 +29,63 @@ Inv-loop file table kinds streams requests rows₀ count walker₀ i₀ at₀ ro
 abbrev μ-loop : tie.MeasureT-loop
 μ-loop file table kinds streams requests rows₀ count walker₀ i₀ at₀ rows walker i at = count - i
 
--- src/lib.rt:153:9
 returns : tie.Need-returns Inv-loop μ-loop
 returns c =
     let a = c .before .before .before .before .before .before .args in
     ((unequal-streams (a .kinds .now) (a .streams .now) (a .requests .now) (c .if1 .taken), refl), tt)
 
--- src/lib.rt:156:9
 returns-2 : tie.Need-returns-2 Inv-loop μ-loop
 returns-2 c =
     let a = c .before .before .before .before .before .before .before .args in
     ((unequal-requests (a .kinds .now) (a .streams .now) (a .requests .now) (c .if2 .taken), refl), tt)
 
--- src/lib.rt:159:9
 returns-3 : tie.Need-returns-3 Inv-loop μ-loop
 returns-3 c =
     let a = c .before .before .before .before .before .before .before .before .args in
     ((equal-all (a .kinds .now) (a .streams .now) (a .requests .now) (omega arith) (omega arith), (omega arith, refl)), tt)
 
--- src/lib.rt:161:9
 new-requires : tie.Need-new-requires Inv-loop μ-loop
 new-requires c κs = search needs
 
--- src/lib.rt:164:5
 loop-holds : tie.Need-loop-holds Inv-loop μ-loop
 loop-holds c =
     let a = c .before .before .before .before .before .before .before .before .before .args in
     rw (c .new .ensures) (going-first (a .file .now) (a .table .now) (a .kinds .now) (a .streams .now) (a .requests .now) (length (a .kinds .now)) (a .rows .now) (omega arith) (omega arith))
 
--- src/lib.rt:165:52
 shared-slice-read-run-call : tie.Need-shared-slice-read-run-call Inv-loop μ-loop
 shared-slice-read-run-call c = search needs
 
--- src/lib.rt:165:62
 mul-run-call : tie.Need-mul-run-call Inv-loop μ-loop
 mul-run-call c = search needs
 
--- src/lib.rt:165:62
 shared-slice-read-run-call-2 : tie.Need-shared-slice-read-run-call-2 Inv-loop μ-loop
 shared-slice-read-run-call-2 c = search needs
 
--- src/lib.rt:165:74
 mul-run-call-2 : tie.Need-mul-run-call-2 Inv-loop μ-loop
 mul-run-call-2 c = search needs
 
--- src/lib.rt:165:74
 shared-slice-copy-out-run-call : tie.Need-shared-slice-copy-out-run-call Inv-loop μ-loop
 shared-slice-copy-out-run-call c = search needs
 
--- src/lib.rt:165:13
 run-call-requires : tie.Need-run-call-requires Inv-loop μ-loop
 run-call-requires c κs = search needs
 
--- src/lib.rt:167:9
 put-requires : tie.Need-put-requires Inv-loop μ-loop
 put-requires c κs = let g = c .before .before .before .before .before .before .before .loop .inv in omega (arith, g .at-is, g .room)
 
--- src/lib.rt:170:9
 add-i : tie.Need-add-i Inv-loop μ-loop
 add-i c =
     let g = c .before .before .before .before .before .before .before .before .before .before .before .loop .inv in
     omega (arith, c .before .before .before .before .before .before .before .before .before .before .loop-test .taken, g .at-is, g .room, g .same, g .held)
 
--- src/lib.rt:171:9
 add-at : tie.Need-add-at Inv-loop μ-loop
 add-at c =
     let g = c .before .before .before .before .before .before .before .before .before .before .before .loop .inv in
     omega (arith, c .before .before .before .before .before .before .before .before .before .before .loop-test .taken, g .at-is, g .room, g .same, g .held)
 
--- src/lib.rt:164:5
 loop-less : tie.Need-loop-less Inv-loop μ-loop
 loop-less c = omega arith
 
--- src/lib.rt:164:5
 loop-again : tie.Need-loop-again Inv-loop μ-loop
 loop-again c =
     let a = c .before .before .before .before .before .before .before .before .before .before .before .before .before .before .before .before .before .before .before .before .before .args in
@@ -114,16 +101,16 @@ loop-again c =
     ∙ ap (λ (y : ℤ). call (a .file .now) (a .table .now) (l .walker) (callOf (getD (a .kinds .now) (l .i) 0) (getD (a .streams .now) (l .i) 0) y) .walker) same)
     (c .before .before .before .put .ensures)
 
--- src/lib.rt:147:1
 same-length : tie.Need-same-length Inv-loop μ-loop
 same-length c = c .before .loop .inv .same
 
--- src/lib.rt:147:1
 returns-4 : tie.Need-returns-4 Inv-loop μ-loop
 returns-4 c =
     let a = c .before .before .before .before .before .before .before .before .before .before .before .args in
     let run = going-last (a .file .now) (a .table .now) (a .kinds .now) (a .streams .now) (a .requests .now) (length (a .kinds .now)) (c .before .loop .inv) (omega arith) in
-    ((equal-all (a .kinds .now) (a .streams .now) (a .requests .now) (omega arith) (omega arith), run), agreed _ _ _ _ _ run)
+    let all : Bytes (a .file .now) =
+    unfold Bytes in λ k. c .before .before .before .before .before .before .before .before .before .before .shared-slice-known .given k .fits in
+    ((equal-all (a .kinds .now) (a .streams .now) (a .requests .now) (omega arith) (omega arith), run), λ cs fin own. agreed _ _ _ _ _ run cs all fin own)
 
 pub run-calls-spec : {M : Type 1} → statement M
 run-calls-spec =

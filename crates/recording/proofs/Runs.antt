@@ -1,0 +1,57 @@
+-- A list of calls over any state answers and leaves what 01's list of calls does, by one step after the other, so 01's claims hold of it.
+-- Assumes nothing.
+use mathlib.Core.Path.{_≡_, refl}
+use mathlib.Core.List.{List, [], _∷_}
+use Prim.Native.Nat.{ℕ}
+use Rattle.error.specs.Answer.{Answer}
+use Rattle.demuxer.specs.declared.walker.Walker.{Walker}
+use Rattle.muxer.specs.declared.Writer.{Writer}
+use Rattle.recording.specs.Machine.{Call, CallAnswer, call, answers, after}
+use Rattle.recording.specs.Written.{WriteCall, writeStep, kept, acceptedCalls, writerAfter, bufferAfter}
+use Rattle.recording.specs.Lists.{Ran, no-call, one-more, Calling, Lent, Writing, acceptedBy, EveryList}
+use Rattle.recording.proofs.Lists.{reads-and-seeks}
+use Rattle.recording.proofs.Writes.{writes}
+
+module _ {S : Type 0} (Stands : S → Walker → Type 0) (Step : S → Call → CallAnswer → S → Type 0) (file table : List ℕ)
+    (calling : Calling Stands Step file table) where
+  follows : {s last : S} {calls : List Call} {said : List CallAnswer} (w : Walker) → Stands s w → Ran Step s calls said last
+      → (said ≡ answers file table w calls) × Stands last (after file table w calls)
+  unfolding answers after
+  follows w i no-call = (refl, i)
+  follows w i (one-more {c = c} step rest) =
+      let t = calling _ _ _ _ w i step in
+      let r = follows (call file table w c .walker) (t .1) rest in
+      ((λ j. t .0 j ∷ r .0 j), r .1)
+
+module _ {S : Type 0} (Stands : S → Writer → Type 0) (Step : Lent S → WriteCall → Answer Unit → Lent S → Type 0)
+    (writing : Writing Stands Step) where
+  writes-follow : {s last : Lent S} {calls : List WriteCall} {said : List (Answer Unit)} (w : Writer) → Stands (s .state) w
+      → Ran Step s calls said last
+      → (acceptedBy calls said ≡ acceptedCalls w (s .buffer) calls)
+      × (Stands (last .state) (writerAfter w (s .buffer) calls) × (last .buffer ≡ bufferAfter w (s .buffer) calls))
+  unfolding acceptedBy acceptedCalls writerAfter bufferAfter
+  writes-follow w i no-call = (refl, (i, refl))
+  writes-follow {s} w i (one-more {c = c} step rest) =
+      let t = writing _ _ _ _ w i step in
+      let r = writes-follow (writeStep w (s .buffer) c .writer) (t .1 .0) rest in
+      rw (← t .1 .1) ((λ j. kept (t .0 j) c (r .0 j)), r .1)
+
+every-run : {S C A : Type 0} (Step : S → C → A → S → Type 0) → ((s : S) (c : C) → (answer : A) × (next : S) × Step s c answer next)
+    → (s : S) (calls : List C) → (said : List A) × (last : S) × Ran Step s calls said last
+every-run Step step s [] = ([], s, no-call)
+every-run Step step s (c ∷ calls) =
+    let t = step s c in
+    let r = every-run Step step (t .1) calls in
+    (t .0 ∷ r .0, r .1, one-more (t .2) (r .2))
+
+pub every-list : EveryList
+every-list =
+    record {
+      reads-and-seeks = λ Stands Step file cs all fin table own calling s calls said last i ran.
+          let f = follows Stands Step file table calling _ i ran in
+          (_, (f .1, rw (f .0) (reads-and-seeks file cs all fin table own calls)));
+      writes = λ Stands Step writing settings held s calls said last i ran.
+          let f = writes-follow Stands Step writing _ i ran in
+          (_, (f .1 .0, rw (f .0, f .1 .1) (writes settings (s .buffer) calls held)));
+      runs = every-run;
+    }

@@ -1,0 +1,64 @@
+-- Lists of calls over any state that stands for 01's, and the claims about them: demand 3 as the callers of functions that keep their
+-- state in words or behind a reference have it. Assumes nothing.
+use mathlib.Core.Path.{_≡_}
+use Prim.Native.Nat.{ℕ}
+use mathlib.Core.List.{List, [], _∷_}
+use lib.ListN.{take}
+use Rattle.error.specs.Answer.{Answer}
+use Rattle.fields.specs.Le.{Bytes}
+use Rattle.demuxer.specs.Read as demuxer
+use Rattle.demuxer.specs.declared.walker.Walker.{Walker}
+use Rattle.muxer.specs.Writer as muxer
+use Rattle.muxer.specs.declared.Settings.{Settings}
+use Rattle.muxer.specs.declared.Writer.{Writer}
+use Rattle.chunk_index.specs.Chunks.{Chunk}
+use Rattle.recording.specs.Grammar.{Finished}
+use Rattle.recording.specs.Machine.{Call, CallAnswer, call, Agreed, OwnIndex}
+use Rattle.recording.specs.Written.{WriteCall, writeStep, kept, Held, WritesAgreed}
+
+-- "each call gets the walker that the last one returned": calls, what each answered, and the state that the last one left; a step says
+-- what one call may answer and leave
+pub data Ran {S C A : Type 0} (Step : S → C → A → S → Type 0) : S → List C → List A → S → Type 0 where
+  no-call : {s : S} → Ran Step s [] [] s
+  one-more : {s next last : S} {c : C} {answer : A} {calls : List C} {said : List A}
+      → Step s c answer next → Ran Step next calls said last → Ran Step s (c ∷ calls) (answer ∷ said) last
+
+-- a step is 01's call: on a state that stands for a walker it answers what the call does, and leaves a state that stands for its walker
+abbrev pub Calling : {S : Type 0} → (S → Walker → Type 0) → (S → Call → CallAnswer → S → Type 0) → List ℕ → List ℕ → Type 0
+Calling {S} Stands Step file table =
+    (s : S) (c : Call) (answer : CallAnswer) (next : S) (w : Walker) → Stands s w → Step s c answer next
+    → (answer ≡ call file table w c .answer) × Stands next (call file table w c .walker)
+
+-- a writing state, and the buffer that is lent beside it
+pub record Lent (S : Type 0) : Type 0 where
+  pub state : S
+  pub buffer : List ℕ
+
+-- the same of a writing call
+abbrev pub Writing : {S : Type 0} → (S → Writer → Type 0) → (Lent S → WriteCall → Answer Unit → Lent S → Type 0) → Type 0
+Writing {S} Stands Step =
+    (s : Lent S) (c : WriteCall) (answer : Answer Unit) (next : Lent S) (w : Writer) → Stands (s .state) w → Step s c answer next
+    → let o = writeStep w (s .buffer) c in
+    (answer ≡ o .answer) × (Stands (next .state) (o .writer) × (next .buffer ≡ o .buffer))
+
+-- the calls that were accepted, by their answers
+unfoldable pub acceptedBy : List WriteCall → List (Answer Unit) → List WriteCall
+acceptedBy [] said = []
+acceptedBy (c ∷ calls) [] = []
+acceptedBy (c ∷ calls) (answer ∷ said) = kept answer c (acceptedBy calls said)
+
+-- Demand 3 over any state, of what the calls answered and left
+pub record EveryList : Type 1 where
+  pub reads-and-seeks : {S : Type 0} (Stands : S → Walker → Type 0) (Step : S → Call → CallAnswer → S → Type 0)
+      → (file : List ℕ) (cs : List Chunk) → Bytes file → Finished file cs → (table : List ℕ) → OwnIndex file table
+      → Calling Stands Step file table
+      → (s : S) (calls : List Call) (said : List CallAnswer) (last : S) → Stands s demuxer.fresh → Ran Step s calls said last
+      → (w : Walker) × (Stands last w × Agreed file cs calls w said)
+  pub writes : {S : Type 0} (Stands : S → Writer → Type 0) (Step : Lent S → WriteCall → Answer Unit → Lent S → Type 0) → Writing Stands Step
+      → (settings : Settings) → Held settings
+      → (s : Lent S) (calls : List WriteCall) (said : List (Answer Unit)) (last : Lent S) → Stands (s .state) (muxer.fresh settings)
+      → Ran Step s calls said last
+      → (w : Writer) × (Stands (last .state) w × WritesAgreed settings (take (w .written) (last .buffer)) (acceptedBy calls said))
+  -- where each call has an answer, each list runs
+  pub runs : {S C A : Type 0} (Step : S → C → A → S → Type 0) → ((s : S) (c : C) → (answer : A) × (next : S) × Step s c answer next)
+      → (s : S) (calls : List C) → (said : List A) × (last : S) × Ran Step s calls said last
