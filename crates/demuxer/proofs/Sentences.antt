@@ -28,6 +28,7 @@ use Rattle.demuxer.specs.Sentences.{Gives, moved, AtCursor, headed, long
 use Rattle.demuxer.specs.declared.head.Head.{Head}
 use Rattle.demuxer.specs.declared.head.Head.the-variants as head
 use Rattle.demuxer.specs.declared.walker.Walker.{Walker}
+use Rattle.demuxer.proofs.Bodies.{count-is}
 use Rattle.demuxer.proofs.Heads.{head-out}
 use Rattle.demuxer.proofs.Outcomes.{refused-stays}
 use Rattle.demuxer.proofs.Ranges.{in-range}
@@ -121,7 +122,6 @@ sound-read file payload rest w a going s =
     )
 
 counted : (state rest : List ℕ) (n : ℕ) → length state ≡ 4 → n ≤ longest → countOf (state ++ (leBytes 4 n ++ rest)) ≡ n
-unfolding countOf
 counted state rest n e h =
     let xs : List ℕ = state ++ (leBytes 4 n ++ rest) in
     let four : le 4 xs 4 ≡ n =
@@ -129,7 +129,7 @@ counted state rest n e h =
     ∙ le-append-right 4 state (leBytes 4 n ++ rest) 0
     ∙ le-leBytes 4 n rest (omega arith) in
     let l : 8 ≤ length xs = unfold leBytes in simp length-append (omega arith) in
-    rw (le-leb 8 (length xs) l, four)
+    count-is xs ∙ rw (le-leb 8 (length xs) l, four)
 
 -- ---- of every read
 
@@ -180,7 +180,7 @@ read-sentences =
       sound = λ file payload rest w count a going s c h. sound-read file payload rest w a going s ∙ rw (c, ne-eqb count 0 (λ e. omega arith));
       silence = λ file payload rest w a going s c. sound-read file payload rest w a going s ∙ rw (c, add-zero (w .position .samples .0));
       count = counted;
-      no-count = λ payload h. unfold countOf in rw (lt-leb 8 (length payload) h);
+      no-count = λ payload h. count-is payload ∙ rw (lt-leb 8 (length payload) h);
       only-short-sets-cut = only-short;
       end-moves-nothing = end-stays;
       gives-back = λ file w r e. refused-stays file w (refused-read (readOf file w .answer) e);

@@ -8,7 +8,7 @@ use Rattle.chunk.specs.Chunk.{streamTag}
 use Rattle.error.specs.Answer.{Answer, accepted, refused}
 use Rattle.error.specs.Sentences.{GivesBack, RefusedBy}
 use Rattle.fields.specs.Le.{leBytes}
-use Rattle.prelude.specs.Prelude.{preludeLen}
+use Rattle.prelude.specs.Layout.{preludeLen}
 use Rattle.muxer.specs.Writer.{Outcome, headerCall, packetCall, trailerCall}
 use Rattle.muxer.specs.declared.Writer.{Writer}
 

@@ -28,13 +28,20 @@ impl Functions {
 
     pub const FROM_FRAME_COUNT: usize = 9;
 
-    pub const COUNT: usize = 10;
+    // From here on a case is a whole file and nothing else.
+    pub const SUMMARY: usize = 10;
+
+    pub const CHECK: usize = 11;
+
+    pub const LISTING: usize = 12;
+
+    pub const COUNT: usize = 13;
 }
 
 // A case of none of them is run as the first.
 pub fn function_of(byte: u8) -> usize
-    ensures { λ r. ⌜ r ≡ cond (ltb byte 10) byte 1 ⌝ }
-    ensures { λ r. ⌜ r < 10 ⌝ }
+    ensures { λ r. ⌜ r ≡ cond (ltb byte 13) byte 1 ⌝ }
+    ensures { λ r. ⌜ r < 13 ⌝ }
 {
     if (byte as usize) < Functions::COUNT {
         byte as usize

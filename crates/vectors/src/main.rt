@@ -1,4 +1,5 @@
-// Replays stored calls and prints what the library answers. The stored output is what the Rust original answered.
+// Replays stored calls and prints what the library answers. The stored output is what the Rust original answered, and for what it does
+// not have, what document 01 fixes.
 mod case;
 mod print;
 mod run;
@@ -25,6 +26,9 @@ fn print_counts(counts: [u64; Functions::COUNT]) {
     print_count(b"write_trailer", counts[Functions::WRITE_TRAILER]);
     print_count(b"interleave", counts[Functions::INTERLEAVE]);
     print_count(b"from_frame_count", counts[Functions::FROM_FRAME_COUNT]);
+    print_count(b"summary", counts[Functions::SUMMARY]);
+    print_count(b"check", counts[Functions::CHECK]);
+    print_count(b"listing", counts[Functions::LISTING]);
 }
 
 // Every case in turn, then how many there were of each function.

@@ -24,6 +24,14 @@ pub fn print_2(words: [u64; 2]) {
     print_words(&words);
 }
 
+pub fn print_3(words: [u64; 3]) {
+    print_words(&words);
+}
+
+pub fn print_6(words: [u64; 6]) {
+    print_words(&words);
+}
+
 pub fn print_7(words: [u64; 7]) {
     print_words(&words);
 }

@@ -2,12 +2,16 @@
 use crate::case::Functions;
 use crate::print::print_1;
 use crate::print::print_2;
+use crate::print::print_3;
+use crate::print::print_6;
 use crate::print::print_7;
 use crate::print::print_9;
 use crate::print::print_16;
 use crate::print::print_bytes;
 use crate::print::print_call;
 use crate::print::print_end;
+use listing::ROOM;
+use listing::list;
 ghost use mathlib.Core.Path.{_≡_};
 ghost use Prim.Native.Nat.{_/_, min};
 ghost use lib.ListN.{length, take};
@@ -194,8 +198,46 @@ fn run_write_trailer(head: [u64; 12], buf: &mut [u8])
     print_end();
 }
 
+fn run_summary(file: &[u8]) {
+    let mut out = [0u64; 3];
+    let number = capi::amv_summary(file, &mut out);
+    print_call(b"summary", number);
+    print_3(out);
+    print_end();
+}
+
+fn run_check(file: &[u8]) {
+    let mut out = [0u64; 6];
+    let number = capi::amv_check(file, &mut out);
+    print_call(b"check", number);
+    print_6(out);
+    print_end();
+}
+
+// The listing byte by byte.
+fn run_listing(input: &[u8]) {
+    let mut lines = [0u8; ROOM];
+    let end = list(input, &mut lines);
+    print_call(b"listing", 0);
+    print_bytes(&lines[..end]);
+    print_end();
+}
+
+// The calls of a whole file.
+fn run_whole(function: usize, file: &[u8]) {
+    if function == Functions::SUMMARY {
+        run_summary(file);
+    } else if function == Functions::CHECK {
+        run_check(file);
+    } else {
+        run_listing(file);
+    }
+}
+
 fn run_reading(function: usize, bytes: &[u8], head: [u64; 12]) {
-    if function == Functions::PARSE {
+    if function >= Functions::SUMMARY {
+        run_whole(function, bytes);
+    } else if function == Functions::PARSE {
         run_parse(bytes, head);
     } else if function == Functions::NEXT_PACKET {
         run_next_packet(bytes, head);

@@ -17,7 +17,7 @@ use Rattle.vectors.proofs.print_counts.Reads as print-counts-reads
 use Rattle.vectors.proofs.run.run_case.Reads as run-case-reads
 
 abbrev Inv-loop : tie.InvT-loop
-Inv-loop input counts₀ at₀ counts at = (at ≤ length input) × (length counts ≡ 10)
+Inv-loop input counts₀ at₀ counts at = (at ≤ length input) × (length counts ≡ 13)
 
 abbrev μ-loop : tie.MeasureT-loop
 μ-loop input counts₀ at₀ counts at = length input - at
