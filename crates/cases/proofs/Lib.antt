@@ -1,2 +1,4 @@
 pub mod Cases
 pub mod Numbers
+pub mod Listed
+pub mod Words

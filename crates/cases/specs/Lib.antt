@@ -1,3 +1,5 @@
 pub mod Example
 pub mod Cases
 pub mod Numbers
+pub mod Listed
+pub mod Words

@@ -1,1 +1,1 @@
-// Document 01's ten cases, proved as one group: specs/Cases.antt states them, proofs/Cases.antt proves them.
+// Document 01's ten cases, a case for every number, for every total and every word, and the listings: specs/ states them, proofs/ proves them.

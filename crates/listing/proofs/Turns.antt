@@ -15,7 +15,7 @@ use Rattle.lines.specs.Written.{Written}
 use Rattle.lines.proofs.Laws.{same-size}
 use Rattle.demuxer.specs.Head.{headAt, countOf}
 use Rattle.demuxer.specs.Position.{start, InRange, pastFrame, pastSound}
-use Rattle.demuxer.specs.Read.{Reading, ReadAnswer, packet, End, refused, payloadAt, readFrame, readSound, readHead, readChunk, readOf}
+use Rattle.demuxer.specs.Read.{ReadAnswer, packet, End, refused, payloadAt, readFrame, readSound, readHead, readChunk, readOf}
 use Rattle.demuxer.specs.declared.head.Head.{Head}
 use Rattle.demuxer.specs.declared.head.Head.the-variants as head
 use Rattle.demuxer.specs.declared.position.Position.{Position}
@@ -23,7 +23,7 @@ use Rattle.demuxer.specs.declared.walker.Walker.{Walker}
 use Rattle.demuxer.proofs.Ranges.{in-range}
 use Rattle.demuxer.proofs.Steps.{read-on}
 use Rattle.chunk_index.specs.Index.{fileWalk}
-use Rattle.chunk_index.specs.Walk.{Kind, frame, sound, Walk, chunk, past, onHead, walk}
+use Rattle.chunk_index.specs.Walk.{Kind, frame, sound, chunk, onHead, walk}
 use Rattle.chunk_index.proofs.Walks.{head-there, walk-step, payload-size}
 use Rattle.recording.proofs.Positions.{count-le}
 use Rattle.listing.specs.Listing.{lineAt, chunkLines, inputLimit}

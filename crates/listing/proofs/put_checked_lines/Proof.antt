@@ -1,5 +1,5 @@
 -- The check's answer is the definition's; the totals are put where the chunks' lines end.
-use mathlib.Core.Path.{_≡_, sym, ap, _∙_}
+use mathlib.Core.Path.{sym, ap, _∙_}
 use borrow.Author.Needs.{needs}
 use Rattle.lines.proofs.Laws.{join}
 use Rattle.recording.specs.Check.{saidCheck}
