@@ -1,4 +1,5 @@
 pub mod Cases
 pub mod Numbers
+pub mod Built
 pub mod Listed
 pub mod Words
