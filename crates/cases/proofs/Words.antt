@@ -17,12 +17,13 @@ use Rattle.chunk_index.specs.Entry.{entryBytes, tableBytes, entryAt, entriesFro
 use Rattle.chunk_index.specs.Index.{records, tagsKnown, indexOf, buildOf, countsFrom, summaryOf}
 use Rattle.seek.specs.Seek.{goodEntries, seekQuestions, find, pastLast, seekOf}
 use Rattle.recording.specs.Check.{tagsOf, checkFrom, checkOf}
+use Rattle.words.specs.State.{walkerLegal, settingsLegal, writerLegal}
 use Rattle.cases.specs.Example.{E}
 use Rattle.cases.specs.Numbers.{P, T}
 use Rattle.cases.specs.Words.{Words}
 
 pub words : Words
-unfolding le leBytes put interleaveFrom headerFields headerSentinels cbSizeOf waveFormatFields waveFormatSentinels preambleOf preludeBytes layout askWord askBody askItems preludeFields parseOf zeros zeroRanges validatedOf strictOf headAt countOf inRange readFrame readSound readChunk readOf walkFor walk chunkBytes chunksBytes entryBytes tableBytes entryAt entriesFrom records tagsKnown indexOf buildOf countsFrom summaryOf goodEntries seekQuestions find pastLast seekOf tagsOf checkFrom checkOf E P T
+unfolding le leBytes put interleaveFrom headerFields headerSentinels cbSizeOf waveFormatFields waveFormatSentinels preambleOf preludeBytes layout askWord askBody askItems preludeFields parseOf zeros zeroRanges validatedOf strictOf headAt countOf inRange readFrame readSound readChunk readOf walkFor walk chunkBytes chunksBytes entryBytes tableBytes entryAt entriesFrom records tagsKnown indexOf buildOf countsFrom summaryOf goodEntries seekQuestions find pastLast seekOf tagsOf checkFrom checkOf walkerLegal settingsLegal writerLegal E P T
 words =
     record {
       walker = refl;
@@ -36,4 +37,15 @@ words =
       summary = refl;
       check = refl;
       check-paired = refl;
+      end-2 = refl;
+      cut-2 = refl;
+      large = refl;
+      width = refl;
+      height = refl;
+      fps = refl;
+      rate = refl;
+      channels = refl;
+      begun-2 = refl;
+      ended-2 = refl;
+      largest = refl;
     }

@@ -1,17 +1,27 @@
 -- The order of the words in C: each word of a state and of an answer is another number. Assumes nothing.
 use mathlib.Core.Path.{_≡_}
 use mathlib.Core.Bool.{true, false}
-use mathlib.Core.List.{[], _∷_}
+use mathlib.Core.List.{List, [], _∷_}
+use Prim.Native.Nat.{ℕ, _-_, _^_}
 use lib.IntN.{pos}
 use lib.ListN.{replicate}
-use Rattle.error.specs.Answer.{accepted}
+use Rattle.error.specs.Answer.{Answer, accepted, refused, numbered}
+use Rattle.fields.specs.Le.{put}
 use Rattle.prelude.specs.Built.{preludeBytes}
 use Rattle.demuxer.specs.declared.walker.Trailer.the-variants.{At, NotMet}
-use Rattle.words.specs.State.{walkerWords, writerWords}
+use Rattle.words.specs.State.{walkerOf, walkerWords, writerOf, writerWords}
 use Rattle.capi.specs.Calls.{parseAnswer, nextAnswer, seekAnswer, indexAnswer, summaryAnswer, checkAnswer}
 use Rattle.cases.specs.Cases.{position, ownIndex}
 use Rattle.cases.specs.Example.{E}
 use Rattle.cases.specs.Numbers.{walkerAt, T}
+
+-- a fresh writer's words with another word at a place
+abbrev pub writerWith : ℕ → ℕ → List ℕ
+writerWith i word = put (replicate 9 0) i (word ∷ [])
+
+-- "A state word outside its field's range .. is refused with 1 at place 0"
+abbrev pub illegal : {S : Type 0} → Answer S
+illegal = refused (numbered 1 0)
 
 pub record Words : Type 0 where
   -- "walker: cursor, frames, samples, blocks, end, cut, trailer offset or UINT64_MAX"
@@ -44,3 +54,26 @@ pub record Words : Type 0 where
   pub summary : summaryAnswer T ≡ accepted (2 ∷ 1 ∷ [])
   pub check : checkAnswer T ≡ accepted (2 ∷ 1 ∷ 5 ∷ 351 ∷ 0 ∷ [])
   pub check-paired : checkAnswer E ≡ accepted (1 ∷ 1 ∷ 2 ∷ 345 ∷ 1 ∷ [])
+  -- "a mark other than 0 or 1; width, height, fps or rate over 32 bits; channels over 16"; "large cursors and counters are 32's business"
+  pub end-2 : walkerOf (0 ∷ 0 ∷ 0 ∷ 0 ∷ 2 ∷ 0 ∷ 0 ∷ []) ≡ illegal
+  pub cut-2 : walkerOf (0 ∷ 0 ∷ 0 ∷ 0 ∷ 0 ∷ 2 ∷ 0 ∷ []) ≡ illegal
+  pub large :
+      walkerOf (2 ^ 63 ∷ 2 ^ 63 ∷ 2 ^ 63 ∷ 2 ^ 63 ∷ 1 ∷ 1 ∷ 2 ^ 63 ∷ [])
+      ≡ accepted (record { position = position (2 ^ 63) (2 ^ 63) (2 ^ 63) (2 ^ 63); end = true; cut = true; trailer = At (2 ^ 63) })
+  pub width : writerOf (writerWith 0 (2 ^ 32)) ≡ illegal
+  pub height : writerOf (writerWith 1 (2 ^ 32)) ≡ illegal
+  pub fps : writerOf (writerWith 2 (2 ^ 32)) ≡ illegal
+  pub rate : writerOf (writerWith 3 (2 ^ 32)) ≡ illegal
+  pub channels : writerOf (writerWith 4 (2 ^ 16)) ≡ illegal
+  pub begun-2 : writerOf (writerWith 5 2) ≡ illegal
+  pub ended-2 : writerOf (writerWith 6 2) ≡ illegal
+  pub largest :
+      writerOf ((2 ^ 32 - 1) ∷ (2 ^ 32 - 1) ∷ (2 ^ 32 - 1) ∷ (2 ^ 32 - 1) ∷ (2 ^ 16 - 1) ∷ 1 ∷ 1 ∷ 2 ^ 63 ∷ 2 ^ 63 ∷ [])
+      ≡ accepted
+      (record {
+        settings = record { width = 2 ^ 32 - 1; height = 2 ^ 32 - 1; fps = 2 ^ 32 - 1; rate = 2 ^ 32 - 1; channels = 2 ^ 16 - 1 };
+        begun = true;
+        ended = true;
+        written = 2 ^ 63;
+        frames = 2 ^ 63;
+      })
