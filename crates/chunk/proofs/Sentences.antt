@@ -1,7 +1,7 @@
 -- 01's sentences about chunk headers and the interleave check hold: numbers by the cases of the questions, pairs by induction two tags at a
 -- time. Assumes nothing.
 use mathlib.Core.Path.{_≡_, refl, sym}
-use mathlib.Core.Bool.{Bool, true, false, not}
+use mathlib.Core.Bool.{true, false, not}
 use mathlib.Core.List.{List, [], _∷_}
 use Prim.Native.Nat.{ℕ, zero, suc, _%_}
 use native.Mathlib.Omega.{arith}
@@ -10,7 +10,7 @@ use lib.Dec.{leb}
 use lib.ListN.{length}
 use Rattle.error.specs.Answer.{accepted, ask}
 use Rattle.error.specs.Sentences.{RefusedBy}
-use Rattle.error.proofs.Answers.{never, then-passed, ask-passed}
+use Rattle.error.proofs.Answers.{never, clash, then-passed, ask-passed}
 use Rattle.error.proofs.Sentences.{asked-by, then-by}
 use Rattle.chunk.specs.Chunk.{videoTag, audioTag, kindOf, chunkHeaderOf}
 use Rattle.chunk.specs.Interleave.{even, interleaveAt, interleaveFrom}
@@ -46,9 +46,6 @@ pairs-from : (p n : ℕ) → even p ≡ true → interleaveFrom p (pairs n) ≡ 
 unfolding interleaveFrom pairs
 pairs-from p zero e = rw e
 pairs-from p (suc n) e = rw (e, odd-next p e) (pairs-from (suc (suc p)) n (even-next p e))
-
-clash : {A : Type 0} {b : Bool} → b ≡ true → b ≡ false → A
-clash p q = let z : _≡_ {A = ℕ} 0 1 = cc in absurd (omega arith)
 
 -- at an even position only a frame passes, at an odd one only sound
 frame-at : (p : ℕ) (k : ChunkKind) → even p ≡ true → interleaveAt k p ≡ accepted tt → k ≡ Video

@@ -12,7 +12,7 @@ use lib.Dec.{eqb}
 use lib.ListN.{length, length-append}
 use Rattle.chunk.specs.Chunk.{videoTag, audioTag, trailerBytes, kindOf}
 use Rattle.chunk.specs.declared.ChunkKind.the-variants.{Other}
-use Rattle.error.proofs.Answers.{both}
+use Rattle.error.proofs.Answers.{clash, both}
 use Rattle.error.specs.Answer.{refused}
 use Rattle.error.specs.Sentences.{RefusedBy}
 use Rattle.error.specs.declared.Refusal.{Refusal}
@@ -138,13 +138,10 @@ refused-read (packet p) e = let z : _≡_ {A = ℕ} 0 1 = cc in absurd (omega ar
 refused-read End e = let z : _≡_ {A = ℕ} 0 1 = cc in absurd (omega arith)
 refused-read (read.refused q) e = cc
 
-clear-cut : {A : Type 0} {x : Bool} → x ≡ false → x ≡ true → A
-clear-cut p q = let z : _≡_ {A = ℕ} 0 1 = cc in absurd (omega arith)
-
 only-short : (file : List ℕ) (w : Walker) → w .cut ≡ false → readOf file w .walker .cut ≡ true
     → length file < w .position .cursor + 8 + le 4 file (w .position .cursor + 4)
 only-short file w c =
-    let clear : w .cut ≡ true → length file < w .position .cursor + 8 + le 4 file (w .position .cursor + 4) = λ e. clear-cut c e in
+    let clear : w .cut ≡ true → length file < w .position .cursor + 8 + le 4 file (w .position .cursor + 4) = λ e. clash e c in
     read-cases file w (λ (q : Reading). q .walker .cut ≡ true → length file < w .position .cursor + 8 + le 4 file (w .position .cursor + 4))
     clear clear clear (λ h e. h) clear clear clear clear
 

@@ -3,14 +3,14 @@ use mathlib.Core.Path.{_≡_, refl}
 use Prim.Native.Nat.{ℕ}
 use mathlib.Core.Bool.{Bool, true, false, _||_}
 use mathlib.Core.List.{List, [], _∷_, _++_}
-use native.Mathlib.Omega.{arith}
 use lib.Dec.{eqb}
 use Rattle.error.specs.Answer.{Answer, accepted, refused, ask, andThen}
 use Rattle.error.specs.Sentences.{oneOf, RefusedBy}
+use Rattle.error.proofs.Answers.{clash}
 
 -- more numbers list no fewer
 listed-more : (ms ns : List ℕ) (n : ℕ) → oneOf ms n ≡ true → oneOf (ms ++ ns) n ≡ true
-listed-more [] ns n e = let z : _≡_ {A = ℕ} 0 1 = cc in absurd (omega arith)
+listed-more [] ns n e = clash e refl
 listed-more (m ∷ ms) ns n e = go (eqb m n) e (listed-more ms ns n)
   where
     go : (b : Bool) → (b || oneOf ms n) ≡ true → (oneOf ms n ≡ true → oneOf (ms ++ ns) n ≡ true) → (b || oneOf (ms ++ ns) n) ≡ true

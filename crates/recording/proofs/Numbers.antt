@@ -1,5 +1,5 @@
 -- No refusal of a call has the number 0: its number is one of those that 01's sentences list. Assumes nothing.
-use mathlib.Core.Path.{_≡_, refl, sym, ap, _∙_}
+use mathlib.Core.Path.{_≡_, refl, ap, _∙_}
 use Prim.Native.Nat.{ℕ, _≤_}
 use mathlib.Core.Bool.{Bool, true, false}
 use mathlib.Core.List.{List, [], _∷_}
@@ -7,6 +7,7 @@ use native.Mathlib.Omega.{arith}
 use lib.IntN.{ℤ}
 use Rattle.error.specs.Answer.{Answer, accepted, refused, ask, andThen}
 use Rattle.error.specs.Sentences.{oneOf, RefusedBy}
+use Rattle.error.proofs.Answers.{clash}
 use Rattle.demuxer.specs.Read.{ReadAnswer, End, readOf}
 use Rattle.demuxer.specs.Read as read
 use Rattle.demuxer.specs.Sentences.{asAnswer}
@@ -35,8 +36,7 @@ then-numbered (refused r) rest k h = k
 -- a list of numbers without 0
 listed : {A : Type 0} (numbers : List ℕ) → oneOf numbers 0 ≡ false → (a : Answer A) → RefusedBy numbers a → Numbered a
 listed numbers n (accepted x) h = tt
-listed numbers n (refused r) h =
-    λ e. let t : true ≡ false = sym h ∙ ap (oneOf numbers) e ∙ n in let z : _≡_ {A = ℕ} 0 1 = cc in omega arith
+listed numbers n (refused r) h = λ e. clash h (ap (oneOf numbers) e ∙ n)
 
 abbrev pub ReadNumbered : ReadAnswer → Type 0
 ReadNumbered (read.packet p) = Unit

@@ -15,7 +15,7 @@ use Rattle.chunk.specs.Chunk.{streamTag}
 use Rattle.error.specs.Answer.{Answer, accepted, refused, ask, andThen}
 use Rattle.error.specs.Sentences.{RefusedBy}
 use Rattle.error.specs.declared.Refusal.{Refusal}
-use Rattle.error.proofs.Answers.{never, accepted-same, both}
+use Rattle.error.proofs.Answers.{never, clash, accepted-same, both}
 use Rattle.error.proofs.Sentences.{asked-by, then-by}
 use Rattle.chunk_index.specs.Entry.{entryLen, entriesOf}
 use Rattle.chunk_index.specs.declared.entry.ChunkIndexEntry.{ChunkIndexEntry}
@@ -24,9 +24,6 @@ use Rattle.demuxer.specs.declared.position.Position.{Position}
 use Rattle.demuxer.specs.declared.walker.Walker.{Walker}
 use Rattle.seek.specs.Seek.{stampOf, goodEntry, goodEntries, seekQuestions, reaches, find, beyond, pastLast, Seeking, movedTo, landed, soughtFrom, seekOf}
 use Rattle.seek.specs.Sentences.{Reaches, NoneReaches, GoneTo, Past, SeekSentences}
-
-absurd-marks : {A : Type 0} {x : Bool} → x ≡ true → x ≡ false → A
-absurd-marks p q = let z : _≡_ {A = ℕ} 0 1 = cc in absurd (omega arith)
 
 -- ---- the search
 
@@ -37,7 +34,7 @@ module _ (stream : ℕ) (request : ℤ) where
       record { of-stream = eqb-true (e .tag) (streamTag stream) (b .0); stamp = b .1 }
 
   no-reach : (e : ChunkIndexEntry) → reaches stream request e ≡ false → Reaches stream request e → ⊥
-  no-reach e f r = absurd-marks {x = reaches stream request e} (rw (eq-eqb (e .tag) (streamTag stream) (r .of-stream), r .stamp)) f
+  no-reach e f r = clash {b = reaches stream request e} (rw (eq-eqb (e .tag) (streamTag stream) (r .of-stream), r .stamp)) f
 
   record First (es : List ChunkIndexEntry) (p : Position) : Type 0 where
     before : List ChunkIndexEntry
@@ -134,7 +131,7 @@ module _ (table : List ℕ) (w : Walker) (stream : ℕ) (request : ℤ) where
         there = s .there;
         stamped = sym (accepted-same a) ∙ ap (stampOf stream) (s .there);
       })
-      (λ f a g. absurd-marks refl g)
+      (λ f a g. clash refl g)
 
   not-found : (stamp : ℕ) → seekOf table w stream request .answer ≡ accepted stamp → seekOf table w stream request .walker .end ≡ true
       → NoneReaches stream request (entriesOf table) × (stamp ≡ stampOf stream (seekOf table w stream request .walker .position))
@@ -144,7 +141,7 @@ module _ (table : List ℕ) (w : Walker) (stream : ℕ) (request : ℤ) where
       q .answer ≡ accepted stamp → q .walker .end ≡ true
       → NoneReaches stream request (entriesOf table) × (stamp ≡ stampOf stream (q .walker .position)))
       (λ r e a g. never (sym a))
-      (λ p f a g. absurd-marks g refl)
+      (λ p f a g. clash g refl)
       (λ f a g. (find-none stream request (entriesOf table) f, sym (accepted-same a)))
 
   last : (stamp : ℕ) (front : List ChunkIndexEntry) (e : ChunkIndexEntry) → seekOf table w stream request .answer ≡ accepted stamp
@@ -154,7 +151,7 @@ module _ (table : List ℕ) (w : Walker) (stream : ℕ) (request : ℤ) where
       seek-cases table w stream request
       (λ (q : Seeking). q .answer ≡ accepted stamp → q .walker .end ≡ true → entriesOf table ≡ front ++ (e ∷ []) → Past e (q .walker .position))
       (λ r e a g i. never (sym a))
-      (λ p f a g i. absurd-marks g refl)
+      (λ p f a g i. clash g refl)
       (λ f a g i. subst (Past e) (sym (ap (pastLast (w .position)) i ∙ past-end (w .position) front e)) (past-entry e))
 
   empty : entriesOf table ≡ [] → seekOf table w stream request .walker .position ≡ w .position
