@@ -204,8 +204,8 @@ fn totals(cases: &mut Cases) {
     }
 }
 
-/// E cut, changed and with more after it, and other bytes after its prelude.
-fn damages(cases: &mut Cases) {
+/// E cut: in the prelude, and after it.
+fn cuts(cases: &mut Cases) {
     let example = files::example();
     // Where a tag is there and its size is cut the original panics.
     for (cut, place) in [
@@ -257,7 +257,11 @@ fn damages(cases: &mut Cases) {
         check(cases, &example[..cut], refused(60, chunk));
         summary(cases, &example[..cut], accepted(&records));
     }
-    // A byte of E, what it is changed to, the check's number and place.
+}
+
+/// E with a byte changed.
+fn changes(cases: &mut Cases) {
+    // The byte, what it is changed to, the check's number and place.
     for (at, byte, number, place) in [
         (0, b'r', 12, 0),
         (223, b'H', 12, 220),
@@ -295,6 +299,11 @@ fn damages(cases: &mut Cases) {
     summary(cases, &example_with(0, b'r'), accepted(&[1, 1]));
     summary(cases, &example_with(72, 0), accepted(&[1, 1]));
     summary(cases, &example_with(330, b'c'), refused(31, 327));
+}
+
+/// More after E, and other bytes after its prelude.
+fn tails(cases: &mut Cases) {
+    let example = files::example();
     for more in [&b"x"[..], b"AMV_END_", b"00dc\0\0\0\0"] {
         let file = [&example[..], more].concat();
         check(cases, &file, refused(61, 345));
@@ -308,16 +317,16 @@ fn damages(cases: &mut Cases) {
         (b"00db\xff\xff\xff\xff", refused(31, 316), refused(31, 316)),
         (b"00dc\xff\xff\xff\xff", refused(60, 316), accepted(&[1, 0])),
         (
-            b"01wb\xff\xff\xff\xff7bytes.",
+            b"01wb\xff\xff\xff\xff.seven.",
             refused(60, 316),
             accepted(&[0, 0]),
         ),
         (
-            b"01wb\xff\xff\xff\xff8 bytes.",
+            b"01wb\xff\xff\xff\xff.eight..",
             refused(60, 316),
             accepted(&[0, 1]),
         ),
-        (b"01wb\x04\0\0\03by", refused(60, 316), accepted(&[0, 0])),
+        (b"01wb\x04\0\0\0abc", refused(60, 316), accepted(&[0, 0])),
         (
             b"01wb\x02\0\0\0xAMV_END_",
             refused(60, 326),
@@ -588,7 +597,9 @@ fn listings(cases: &mut Cases) {
 
 pub fn all(cases: &mut Cases) {
     totals(cases);
-    damages(cases);
+    cuts(cases);
+    changes(cases);
+    tails(cases);
     reads(cases);
     indexes_and_jumps(cases);
     writes(cases);
