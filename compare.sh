@@ -1,7 +1,7 @@
 #!/usr/bin/env bash
 # Holds the library against the Rust original and against a plain second implementation of document 01:
 #   ./compare.sh [SEED] [COUNT] [DIR]
-#   ./compare.sh vectors [DIR]     stores answers of the original for the program vectors
+#   ./compare.sh vectors [DIR]     stores answers, the original's and 01's, for the program vectors
 # DIR holds the original's parse.rs, demuxer.rs and muxer.rs, which are built as they stand. Needs cargo; no network.
 cd "$(dirname "$0")" || exit 2
 if [ "${1:-}" = vectors ]; then

@@ -4,7 +4,7 @@
 //!     compare vectors FOLDER
 //!
 //! The short inputs run in full, then random rounds until COUNT comparisons are made. Each difference from the original is one of
-//! the rules, which stand in docs/DIFFERENCES.md, or it fails. The second form stores answers of the original for the program `vectors`.
+//! the rules, which stand in docs/DIFFERENCES.md, or it fails. The second form stores answers for the program `vectors`.
 
 // The declarations of the binding: one text, which a test holds against the header and the source.
 #[path = "../../bindings/rust/src/sys.rs"]

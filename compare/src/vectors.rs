@@ -1,5 +1,7 @@
-//! Answers of the original, stored: the calls as bytes that the program `vectors` replays, and what it must print. Only calls that the
-//! original answers as 01 does are taken; where its text names no place, the place is 01's.
+//! Answers, stored: the calls as bytes that the program `vectors` replays, and what it must print. Those here are the original's: only
+//! calls that it answers as 01 does are taken, and where its text names no place, the place is 01's. What it does not have is in `stated`.
+
+mod stated;
 
 use std::fmt::Write as _;
 use std::fs;
@@ -21,9 +23,12 @@ const WRITE_TRAILER: (u8, &str) = (6, "write_trailer");
 const SEEK_TO_VIA_INDEX: (u8, &str) = (7, "seek_to_via_index");
 const INTERLEAVE: (u8, &str) = (8, "interleave");
 const FROM_FRAME_COUNT: (u8, &str) = (9, "from_frame_count");
+const SUMMARY: (u8, &str) = (10, "summary");
+const CHECK: (u8, &str) = (11, "check");
+const LISTING: (u8, &str) = (12, "listing");
 
 /// In the order of the counts that the program prints last.
-const FUNCTIONS: [(u8, &str); 9] = [
+const FUNCTIONS: [(u8, &str); 12] = [
     PARSE,
     NEXT_PACKET,
     BUILD_CHUNK_INDEX,
@@ -33,6 +38,9 @@ const FUNCTIONS: [(u8, &str); 9] = [
     WRITE_TRAILER,
     INTERLEAVE,
     FROM_FRAME_COUNT,
+    SUMMARY,
+    CHECK,
+    LISTING,
 ];
 
 /// Where the tags, sizes and bodies of a prelude start.
@@ -41,14 +49,15 @@ const ITEMS: [usize; 22] = [
     312,
 ];
 
-/// The longest lent bytes that the program has room for.
+/// The longest lent bytes, and the longest calls, that the program has room for.
 const LENT: usize = 1024;
+const CALLS: usize = 524_288;
 
 #[derive(Default)]
 struct Cases {
     calls: Vec<u8>,
     printed: String,
-    counts: [u64; 10],
+    counts: [u64; 13],
     /// How many calls were not taken, since the original answers otherwise.
     left_out: u64,
 }
@@ -205,6 +214,15 @@ fn seek(cases: &mut Cases, table: &[u8], given: WalkerWords, stream: u32, reques
     cases.add(call, said.number.into(), &words, &[]);
 }
 
+/// Function, payload and stream of a writing call.
+fn written_parts(call: Write<'_>) -> ((u8, &'static str), &[u8], u32) {
+    match call {
+        Write::Header => (WRITE_HEADER, &[], 0),
+        Write::Packet(payload, stream) => (WRITE_PACKET, payload, stream),
+        Write::Trailer => (WRITE_TRAILER, &[], 0),
+    }
+}
+
 /// A writing call. The original keeps no ended mark and no count of bytes: the mark is set by an accepted trailer, and the count is
 /// where its writer stands; a refusal leaves both.
 fn write(cases: &mut Cases, given: WriterWords, buf: &[u8], call: Write) {
@@ -230,11 +248,7 @@ fn write(cases: &mut Cases, given: WriterWords, buf: &[u8], call: Write) {
         written,
         frames: wrote.frames,
     };
-    let (function, bytes, stream) = match call {
-        Write::Header => (WRITE_HEADER, &[][..], 0),
-        Write::Packet(payload, stream) => (WRITE_PACKET, payload, stream),
-        Write::Trailer => (WRITE_TRAILER, &[][..], 0),
-    };
+    let (function, bytes, stream) = written_parts(call);
     let place = if accepted { 0 } else { state.written };
     let words = [&[place][..], &words::writer_words(&left)[..]].concat();
     let call = Call {
@@ -480,12 +494,21 @@ pub fn store(folder: &Path) {
     writes(&mut cases);
     tags(&mut cases);
     run_lengths(&mut cases);
+    let of_the_original = cases.counts;
+    stated::all(&mut cases);
     cases.print_counts();
+    assert!(cases.calls.len() < CALLS);
     fs::write(folder.join("stdin"), &cases.calls).unwrap();
     fs::write(folder.join("stdout"), &cases.printed).unwrap();
+    for (function, name) in FUNCTIONS {
+        let theirs = of_the_original[usize::from(function)];
+        let stated = cases.counts[usize::from(function)] - theirs;
+        println!("{name}: {theirs} of the original, {stated} of 01");
+    }
+    let theirs = of_the_original.iter().sum::<u64>();
     println!(
-        "{} cases stored, {} bytes of calls; {} left out, where the original answers otherwise",
-        cases.counts.iter().sum::<u64>(),
+        "{theirs} of the original and {} of 01 stored, {} bytes of calls; {} left out, where the original answers otherwise",
+        cases.counts.iter().sum::<u64>() - theirs,
         cases.calls.len(),
         cases.left_out
     );
