@@ -18,35 +18,8 @@ use Rattle.parse.specs.WaveFormat.{averageOf, cbSizeOf, waveFormatFields, waveF
 use Rattle.prelude.specs.Layout.{layout, askWord, askBody, askItems}
 use Rattle.prelude.specs.Prelude.{preludeFields, parseOf, zeros, zeroRanges, validatedOf, strictOf}
 use Rattle.prelude.specs.Built.{preludeBytes}
-use Rattle.prelude.specs.declared.prelude.AmvPrelude.{AmvPrelude}
+use Rattle.prelude.specs.Sentences.{settings, Held}
 use Rattle.prelude.proofs.Local.{strict-local}
-
--- what a prelude holds that was built from these settings
-abbrev pub settings : ℕ → ℕ → ℕ → ℕ → ℕ → ℕ → AmvPrelude
-settings width height fps duration rate channels =
-    record {
-      header =
-          record {
-            «micros_per_frame» = quotient 1000000 fps;
-            width = width;
-            height = height;
-            fps = fps;
-            «flag_one» = 1;
-            «reserved_30» = 0;
-            «duration_packed» = duration;
-          };
-      «audio_format» =
-          record {
-            «format_tag» = 1;
-            channels = channels;
-            «samples_per_sec» = rate;
-            «avg_bytes_per_sec» = averageOf rate;
-            «block_align» = 2;
-            «bits_per_sample» = 16;
-            «cb_size» = 0;
-          };
-      «movi_payload_start» = 316;
-    }
 
 module _ (width height fps duration rate channels : ℕ) where
   pub length-prelude : length (preludeBytes width height fps duration rate channels) ≡ 316
@@ -66,15 +39,6 @@ module _ (width height fps duration rate channels : ℕ) where
   zeros-built : zeroRanges (preludeBytes width height fps duration rate channels) ≡ accepted tt
   unfolding zeroRanges zeros preludeBytes leBytes
   zeros-built = refl
-
--- every setting that its field holds
-pub record Held (width height fps duration rate channels : ℕ) : Type 0 where
-  pub width-held : width < 256 ^ 4
-  pub height-held : height < 256 ^ 4
-  pub fps-held : fps < 256 ^ 4
-  pub duration-held : duration < 256 ^ 4
-  pub rate-held : rate < 256 ^ 4
-  pub channels-held : channels < 256 ^ 2
 
 micros-held : (fps : ℕ) → quotient 1000000 fps < 256 ^ 4
 micros-held zero = omega arith

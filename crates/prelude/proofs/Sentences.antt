@@ -21,6 +21,7 @@ use Rattle.prelude.specs.Sentences.{parseNumbers, strictNumbers, Prelude
 use Rattle.prelude.specs.declared.layout.LayoutItem.{LayoutItem}
 use Rattle.prelude.specs.declared.layout.LayoutItem.the-variants.{Tag, Size, Body}
 use Rattle.prelude.specs.declared.prelude.AmvPrelude.{AmvPrelude}
+use Rattle.prelude.proofs.BuiltLaws.{length-prelude, parse-built, strict-built}
 
 module _ (numbers : List ℕ) (ten : oneOf numbers 10 ≡ true) (eleven : oneOf numbers 11 ≡ true) (twelve : oneOf numbers 12 ≡ true)
     (thirteen : oneOf numbers 13 ≡ true) where
@@ -100,5 +101,8 @@ prelude-sentences =
     record {
       numbers = parse-by parseNumbers refl refl refl refl;
       strict-numbers = strict-by;
+      long = length-prelude;
+      built = λ width height fps duration rate channels h. parse-built h;
+      passes = λ width height fps duration rate h p. strict-built h p;
       strict-is-more = λ file p e. more file (parseOf file) e;
     }
