@@ -1,5 +1,6 @@
 pub mod Cases
 pub mod Numbers
+pub mod Orders
 pub mod Built
 pub mod Listed
 pub mod Words

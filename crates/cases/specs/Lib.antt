@@ -1,6 +1,7 @@
 pub mod Example
 pub mod Cases
 pub mod Numbers
+pub mod Orders
 pub mod Built
 pub mod Listed
 pub mod Words

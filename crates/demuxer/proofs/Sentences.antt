@@ -157,6 +157,8 @@ pub read-sentences : ReadSentences
 unfolding leBytes
 read-sentences =
     record {
+      starts = refl;
+      first = refl;
       ended = λ file w within range over. read-ended file w (le-leb (length file) fileLimit within) (in-range (w .position) range) over;
       few = λ file w within range going h. looks file w within range going (head-out file (w .position .cursor) h);
       trailer =

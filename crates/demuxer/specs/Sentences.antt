@@ -12,11 +12,12 @@ use Rattle.fields.specs.File.{fileLimit}
 use Rattle.fields.specs.Le.{le, leBytes}
 use Rattle.demuxer.specs.Head.{countOf}
 use Rattle.demuxer.specs.Packet.{Shown}
-use Rattle.demuxer.specs.Position.{InRange}
-use Rattle.demuxer.specs.Read.{ReadAnswer, packet, End, readOf}
+use Rattle.prelude.specs.Layout.{preludeLen}
+use Rattle.demuxer.specs.Position.{start, InRange}
+use Rattle.demuxer.specs.Read.{ReadAnswer, packet, End, fresh, readOf}
 use Rattle.demuxer.specs.Read as read
 use Rattle.demuxer.specs.declared.walker.Trailer.{Trailer}
-use Rattle.demuxer.specs.declared.walker.Trailer.the-variants.{At}
+use Rattle.demuxer.specs.declared.walker.Trailer.the-variants.{At, NotMet}
 use Rattle.demuxer.specs.declared.walker.Walker.{Walker}
 
 -- what a read answers and leaves
@@ -60,6 +61,9 @@ asAnswer End = accepted none
 asAnswer (read.refused r) = refused r
 
 pub record ReadSentences : Type 0 where
+  -- "A fresh one starts at 316 with zero counters, no mark and no trailer"
+  pub starts : fresh ≡ record { position = start; end = false; cut = false; trailer = NotMet }
+  pub first : start ≡ record { cursor = preludeLen; frames = record { 0 = 0 }; samples = record { 0 = 0 }; blocks = record { 0 = 0 } }
   -- "Ended .. : answer End"
   pub ended : (file : List ℕ) (w : Walker) → length file ≤ fileLimit → InRange (w .position) → w .end ≡ true → Gives file w End w
   -- "fewer than 8 bytes at the cursor": End, "sets end and cut"

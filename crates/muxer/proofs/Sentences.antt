@@ -1,16 +1,19 @@
 -- 01's sentences about the three writing calls hold: each call is an outcome of its questions, and what an accepted one leaves is a law of
 -- its own. Assumes nothing.
 use mathlib.Core.Path.{_≡_, refl, ap, _∙_}
-use mathlib.Core.Bool.{Bool, true, false, not, cond}
+use mathlib.Core.Bool.{Bool, true, false, not, cond, _&&_}
 use mathlib.Core.List.{List, [], _∷_}
-use Prim.Native.Nat.{ℕ, _+_, min}
+use Prim.Native.Nat.{ℕ, _+_, _<_, min}
 use native.Mathlib.Omega.{arith}
-use lib.Dec.{leb, eqb}
+use borrow.Author.Tests.{lt-ltb, le-ltb}
+use lib.Dec.{leb, ltb, eqb}
 use lib.ListN.{length}
+use Rattle.duration.specs.Duration.{packedOf, runLength}
 use Rattle.error.specs.Answer.{Answer, accepted, refused, ask}
 use Rattle.error.specs.Sentences.{oneOf, RefusedBy}
+use Rattle.fields.specs.Le.{leBytes, put}
 use Rattle.muxer.specs.Sentences.{Lent, left, RefusedAt, PacketAdded, WriteSentences}
-use Rattle.muxer.specs.Writer.{outcome, fits, hasPrelude, packetBytes, askOpen, headerQuestions, packetQuestions, trailerQuestions, headerCall, packetCall, trailerCall}
+use Rattle.muxer.specs.Writer.{outcome, fits, hasPrelude, packetBytes, patchRunLength, askOpen, headerQuestions, packetQuestions, trailerQuestions, headerCall, packetCall, trailerCall}
 use Rattle.muxer.specs.declared.Writer.{Writer}
 use Rattle.muxer.proofs.Writes.{header-refused, packet-refused, trailer-refused, header-accepted, packet-accepted, trailer-accepted}
 
@@ -117,9 +120,33 @@ packet-adds payload stream l e =
       ended = ap (λ (v : Writer). v .ended) w ∙ t .passed .ready .going;
     }
 
+-- ---- the run length
+
+module _ (w : Writer) (xs : List ℕ) where
+  patched : 0 < w .settings .fps → 0 < w .frames
+      → patchRunLength w xs ≡ put xs 84 (leBytes 4 (packedOf (runLength (w .frames) (w .settings .fps))))
+  unfolding patchRunLength
+  patched f n = rw (lt-ltb 0 (w .settings .fps) f, lt-ltb 0 (w .frames) n)
+
+  at-fps-0 : w .settings .fps ≡ 0 → patchRunLength w xs ≡ xs
+  unfolding patchRunLength
+  at-fps-0 f = rw (le-ltb 0 (w .settings .fps) (omega arith))
+
+  at-no-frames : w .frames ≡ 0 → patchRunLength w xs ≡ xs
+  unfolding patchRunLength
+  at-no-frames n = go (ltb 0 (w .settings .fps)) (ltb 0 (w .frames)) (le-ltb 0 (w .frames) (omega arith))
+    where
+      ys : List ℕ
+      ys = put xs 84 (leBytes 4 (packedOf (runLength (w .frames) (w .settings .fps))))
+
+      go : (a b : Bool) → b ≡ false → cond (a && b) ys xs ≡ xs
+      go true b e = rw e
+      go false b e = refl
+
 pub write-sentences : WriteSentences
 write-sentences =
     record {
+      starts = λ s. refl;
       header =
           record {
             gives-back = λ l r e. same-lent (header-refused (l .writer) (l .buffer) e);
@@ -141,8 +168,10 @@ write-sentences =
           };
       header-added =
           λ l e.
-          let w = header-accepted (l .writer) (l .buffer) e .writer in
+          let t = header-accepted (l .writer) (l .buffer) e in
+          let w = t .writer in
           record {
+            file = t .file;
             begun = ap (λ (v : Writer). v .begun) w;
             written = ap (λ (v : Writer). v .written) w;
             frames = ap (λ (v : Writer). v .frames) w;
@@ -151,8 +180,12 @@ write-sentences =
       packet-added = packet-adds;
       trailer-added =
           λ l e.
-          let w = trailer-accepted (l .writer) (l .buffer) e .writer in
+          let t = trailer-accepted (l .writer) (l .buffer) e in
+          let w = t .writer in
           record {
+            file = λ f n. t .file ∙ patched (l .writer) _ f n;
+            no-fps = λ f. t .file ∙ at-fps-0 (l .writer) _ f;
+            no-frames = λ n. t .file ∙ at-no-frames (l .writer) _ n;
             ended = ap (λ (v : Writer). v .ended) w;
             written = ap (λ (v : Writer). v .written) w;
             frames = ap (λ (v : Writer). v .frames) w;

@@ -4,12 +4,15 @@ use Prim.Native.Nat.{ℕ, _+_, _<_}
 use mathlib.Core.Bool.{true, false}
 use mathlib.Core.List.{List, [], _∷_, _++_}
 use lib.ListN.{length, take}
-use Rattle.chunk.specs.Chunk.{streamTag}
+use Rattle.chunk.specs.Chunk.{streamTag, trailerBytes}
+use Rattle.duration.specs.Duration.{packedOf, runLength}
 use Rattle.error.specs.Answer.{Answer, accepted, refused}
 use Rattle.error.specs.Sentences.{GivesBack, RefusedBy}
-use Rattle.fields.specs.Le.{leBytes}
+use Rattle.fields.specs.Le.{leBytes, put}
+use Rattle.prelude.specs.Built.{preludeBytes}
 use Rattle.prelude.specs.Layout.{preludeLen}
-use Rattle.muxer.specs.Writer.{Outcome, headerCall, packetCall, trailerCall}
+use Rattle.muxer.specs.Writer.{fresh, Outcome, headerCall, packetCall, trailerCall}
+use Rattle.muxer.specs.declared.Settings.{Settings}
 use Rattle.muxer.specs.declared.Writer.{Writer}
 
 -- all that a writing call may change: the state and the lent buffer
@@ -47,20 +50,30 @@ pub record PacketAdded (payload : List ℕ) (stream : ℕ) (l m : Lent) : Type 0
   pub begun : m .writer .begun ≡ true
   pub ended : m .writer .ended ≡ false
 
--- "The header .. sets begun and 316 written"; "the trailer sets ended"
+-- "The header, built with duration 0, goes to offset 0 and sets begun and 316 written"
 pub record HeaderAdded (l m : Lent) : Type 0 where
+  pub file :
+      let s = l .writer .settings in
+      fileIn m ≡ preludeBytes (s .width) (s .height) (s .fps) 0 (s .rate) (s .channels)
   pub begun : m .writer .begun ≡ true
   pub written : m .writer .written ≡ preludeLen
   pub frames : m .writer .frames ≡ l .writer .frames
   pub settings : m .writer .settings ≡ l .writer .settings
 
+-- "The trailer is `AMV_END_`; if fps and frames exceed 0, offset 84 then gets `from_frame_count`"; "the trailer sets ended"
 pub record TrailerAdded (l m : Lent) : Type 0 where
+  pub file : 0 < l .writer .settings .fps → 0 < l .writer .frames
+      → fileIn m ≡ put (fileIn l ++ trailerBytes) 84 (leBytes 4 (packedOf (runLength (l .writer .frames) (l .writer .settings .fps))))
+  pub no-fps : l .writer .settings .fps ≡ 0 → fileIn m ≡ fileIn l ++ trailerBytes
+  pub no-frames : l .writer .frames ≡ 0 → fileIn m ≡ fileIn l ++ trailerBytes
   pub ended : m .writer .ended ≡ true
   pub written : m .writer .written ≡ l .writer .written + 8
   pub frames : m .writer .frames ≡ l .writer .frames
   pub settings : m .writer .settings ≡ l .writer .settings
 
 pub record WriteSentences : Type 0 where
+  -- "A fresh one has neither mark and zero counts."
+  pub starts : (s : Settings) → fresh s ≡ record { settings = s; begun = false; ended = false; written = 0; frames = 0 }
   -- "Header: not begun? 50. Packet and trailer: begun? 51. Not ended? 55 .. 316 written? 56 .. Packet: .. 52 .. 53. .. 54."
   pub header : CallSentences (50 ∷ 55 ∷ 56 ∷ 54 ∷ []) (λ l. headerCall (l .writer) (l .buffer))
   pub packet : (payload : List ℕ) (stream : ℕ) → CallSentences (51 ∷ 55 ∷ 56 ∷ 52 ∷ 53 ∷ 54 ∷ []) (λ l. packetCall (l .writer) payload stream (l .buffer))
