@@ -12,40 +12,31 @@ use Rattle.chunk_index.proofs.index.build_chunk_index.Reads as build-chunk-inde
 use Rattle.error.proofs.AmvError.number.Reads as number-reads
 use Rattle.error.proofs.AmvError.place.Reads as place-reads
 
--- src/lib.rt:93:11
 build-chunk-index-requires : tie.Need-build-chunk-index-requires
 build-chunk-index-requires c κs = search needs
 
--- src/lib.rt:94:25
 enum-known-count : tie.Need-enum-known-count
 enum-known-count c = search needs
 
--- src/lib.rt:98:26
 enum-known-e : tie.Need-enum-known-e
 enum-known-e c = search needs
 
--- src/lib.rt:99:21
 place-requires : tie.Need-place-requires
 place-requires c κs = search needs
 
--- src/lib.rt:100:13
 number-requires : tie.Need-number-requires
 number-requires c κs = search needs
 
--- src/lib.rt:88:1
 same-length : tie.Need-same-length
 same-length c = search needs
 
--- src/lib.rt:88:1
 returns : tie.Need-returns
 returns c = let b = c .before .before .before .before .before .before .build-chunk-index .ensures in
     (says-accepted 2 (gave saidIndex single (b .0) (c .before .before .count .given .1)) refl, b .1)
 
--- src/lib.rt:88:1
 same-length-2 : tie.Need-same-length-2
 same-length-2 c = search needs
 
--- src/lib.rt:88:1
 returns-2 : tie.Need-returns-2
 returns-2 c = let b = c .before .before .before .before .before .before .before .before .build-chunk-index .ensures in
     (says-error 2 (c .before .before .before .before .e .given .0 .0) (gave saidIndex single (b .0) (c .before .before .before .before .e .given .1)) (c .number .ensures) (c .before .before .place .ensures), b .1)

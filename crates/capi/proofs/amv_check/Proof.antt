@@ -12,36 +12,28 @@ use Rattle.error.proofs.AmvError.place.Reads as place-reads
 use Rattle.recording.proofs.check.check.Reads as check-reads
 use Rattle.words.proofs.walker.mark_word.Reads as mark-word-reads
 
--- src/lib.rt:69:11
 check-requires : tie.Need-check-requires
 check-requires c κs = search needs
 
--- src/lib.rt:70:25
 enum-known-totals : tie.Need-enum-known-totals
 enum-known-totals c = search needs
 
--- src/lib.rt:77:17
 mark-word-requires : tie.Need-mark-word-requires
 mark-word-requires c κs = search needs
 
--- src/lib.rt:81:26
 enum-known-e : tie.Need-enum-known-e
 enum-known-e c = search needs
 
--- src/lib.rt:82:21
 place-requires : tie.Need-place-requires
 place-requires c κs = search needs
 
--- src/lib.rt:83:13
 number-requires : tie.Need-number-requires
 number-requires c κs = search needs
 
--- src/lib.rt:65:1
 returns : tie.Need-returns
 returns c =
     says-accepted 6 (gave saidCheck totalsWords (c .before .before .before .before .before .check .ensures) (c .before .before .before .totals .given .1)) (cc)
 
--- src/lib.rt:65:1
 returns-2 : tie.Need-returns-2
 returns-2 c = says-error 6 (c .before .before .before .before .e .given .0 .0) (gave saidCheck totalsWords (c .before .before .before .before .before .before .check .ensures) (c .before .before .before .before .e .given .1)) (c .number .ensures) (c .before .before .place .ensures)
 

@@ -8,15 +8,12 @@ use Rattle.capi.proofs.amv_from_frame_count.Lts as lts
 use Rattle.duration.proofs.AmvDuration.from_frame_count.Reads as from-frame-count-reads
 use Rattle.duration.proofs.AmvDuration.to_packed.Reads as to-packed-reads
 
--- src/lib.rt:39:5
 from-frame-count-requires : tie.Need-from-frame-count-requires
 from-frame-count-requires c κs = search needs
 
--- src/lib.rt:39:5
 to-packed-requires : tie.Need-to-packed-requires
 to-packed-requires c κs = search needs
 
--- src/lib.rt:35:1
 returns : tie.Need-returns
 returns c = c .to-packed .ensures ∙ ap packedOf (c .before .from-frame-count .ensures)
 

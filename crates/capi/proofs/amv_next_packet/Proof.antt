@@ -18,64 +18,49 @@ use Rattle.words.proofs.walker.at_position.Reads as at-position-reads
 use Rattle.words.proofs.walker.walker_of.Reads as walker-of-reads
 use Rattle.words.proofs.walker.walker_words.Reads as walker-words-reads
 
--- src/lib.rt:139:37
 walker-of-requires : tie.Need-walker-of-requires
 walker-of-requires c κs = search needs
 
--- src/lib.rt:139:28
 enum-known-state : tie.Need-enum-known-state
 enum-known-state c = search needs
 
--- src/lib.rt:140:9
 enum-told : tie.Need-enum-told
 enum-told c = search needs
 
--- src/lib.rt:141:9
 returns : tie.Need-returns
 returns c =
     walks-illegal 7 _ _ _ (known saidWalker (c .before .before .before .walker-of .ensures) (c .before .enum-told .given .1))
 
--- src/lib.rt:143:9
 next-packet-requires : tie.Need-next-packet-requires
 next-packet-requires c κs = search needs
 
--- src/lib.rt:147:28
 enum-known-answer : tie.Need-enum-known-answer
 enum-known-answer c = search needs
 
--- src/lib.rt:150:23
 at-position-requires : tie.Need-at-position-requires
 at-position-requires c κs = search needs
 
--- src/lib.rt:151:20
 packet-out-requires : tie.Need-packet-out-requires
 packet-out-requires c κs = search needs
 
--- src/lib.rt:155:23
 enum-told-2 : tie.Need-enum-told-2
 enum-told-2 c = search needs
 
--- src/lib.rt:155:23
 walker-words-requires : tie.Need-walker-words-requires
 walker-words-requires c κs = search needs
 
--- src/lib.rt:159:25
 enum-known-answer-2 : tie.Need-enum-known-answer-2
 enum-known-answer-2 c = search needs
 
--- src/lib.rt:160:23
 walker-words-requires-2 : tie.Need-walker-words-requires-2
 walker-words-requires-2 c κs = search needs
 
--- src/lib.rt:161:21
 place-requires : tie.Need-place-requires
 place-requires c κs = search needs
 
--- src/lib.rt:162:13
 number-requires : tie.Need-number-requires
 number-requires c κs = search needs
 
--- src/lib.rt:135:1
 returns-2 : tie.Need-returns-2
 returns-2 c =
     let p = c .before in
@@ -91,7 +76,6 @@ returns-2 c =
     (p .at-position .ensures ∙ position-kept (a .walker .now) w _ legal ∙ ap walkerWords (sym (packet-moves (a .file .now) w (r .ensures .0) given))
     ∙ ap (λ q. walkerWords (q .walker)) (r .ensures .0))
 
--- src/lib.rt:135:1
 returns-3 : tie.Need-returns-3
 returns-3 c =
     let n = c .before in
@@ -102,7 +86,6 @@ returns-3 c =
     (says-accepted 7 (read-gave (a .file .now) (s .state .given .0 .0) (r .ensures .0) (n .before .enum-told2 .given .1)) refl)
     (n .walker-words .ensures ∙ ap (λ q. walkerWords (q .walker)) (r .ensures .0))
 
--- src/lib.rt:135:1
 returns-4 : tie.Need-returns-4
 returns-4 c =
     let n = c .before .before .before in

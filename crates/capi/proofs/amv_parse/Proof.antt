@@ -12,35 +12,27 @@ use Rattle.error.proofs.AmvError.number.Reads as number-reads
 use Rattle.error.proofs.AmvError.place.Reads as place-reads
 use Rattle.words.proofs.out.prelude_out.Reads as prelude-out-reads
 
--- src/lib.rt:119:11
 parsed-requires : tie.Need-parsed-requires
 parsed-requires c κs = search needs
 
--- src/lib.rt:120:30
 enum-known-prelude : tie.Need-enum-known-prelude
 enum-known-prelude c = search needs
 
--- src/lib.rt:121:20
 prelude-out-requires : tie.Need-prelude-out-requires
 prelude-out-requires c κs = search needs
 
--- src/lib.rt:124:31
 enum-known-e : tie.Need-enum-known-e
 enum-known-e c = search needs
 
--- src/lib.rt:125:21
 place-requires : tie.Need-place-requires
 place-requires c κs = search needs
 
--- src/lib.rt:126:13
 number-requires : tie.Need-number-requires
 number-requires c κs = search needs
 
--- src/lib.rt:115:1
 returns : tie.Need-returns
 returns c = says-accepted 16 (gave saidPrelude preludeWords (c .before .before .before .before .parsed .ensures) (c .before .before .prelude .given .1)) (c .prelude-out .ensures)
 
--- src/lib.rt:115:1
 returns-2 : tie.Need-returns-2
 returns-2 c = says-error 16 (c .before .before .before .before .e .given .0 .0) (gave saidPrelude preludeWords (c .before .before .before .before .before .before .parsed .ensures) (c .before .before .before .before .e .given .1)) (c .number .ensures) (c .before .before .place .ensures)
 

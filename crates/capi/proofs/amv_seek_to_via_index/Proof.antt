@@ -15,48 +15,37 @@ use Rattle.seek.proofs.seek_to_via_index.Reads as seek-to-via-index-reads
 use Rattle.words.proofs.walker.walker_of.Reads as walker-of-reads
 use Rattle.words.proofs.walker.walker_words.Reads as walker-words-reads
 
--- src/lib.rt:171:37
 walker-of-requires : tie.Need-walker-of-requires
 walker-of-requires c κs = search needs
 
--- src/lib.rt:171:28
 enum-known-state : tie.Need-enum-known-state
 enum-known-state c = search needs
 
--- src/lib.rt:172:9
 enum-told : tie.Need-enum-told
 enum-told c = search needs
 
--- src/lib.rt:173:9
 returns : tie.Need-returns
 returns c =
     walks-illegal 2 _ _ _ (known saidWalker (c .before .before .before .walker-of .ensures) (c .before .enum-told .given .1))
 
--- src/lib.rt:175:9
 seek-to-via-index-requires : tie.Need-seek-to-via-index-requires
 seek-to-via-index-requires c κs = search needs
 
--- src/lib.rt:177:15
 walker-words-requires : tie.Need-walker-words-requires
 walker-words-requires c κs = search needs
 
--- src/lib.rt:180:24
 enum-known-result : tie.Need-enum-known-result
 enum-known-result c = search needs
 
--- src/lib.rt:184:25
 enum-known-result-2 : tie.Need-enum-known-result-2
 enum-known-result-2 c = search needs
 
--- src/lib.rt:185:21
 place-requires : tie.Need-place-requires
 place-requires c κs = search needs
 
--- src/lib.rt:186:13
 number-requires : tie.Need-number-requires
 number-requires c κs = search needs
 
--- src/lib.rt:160:1
 returns-2 : tie.Need-returns-2
 returns-2 c =
     let b = c .before .before .before .before .before .before .before .before .before .before .before .before .before in
@@ -68,7 +57,6 @@ returns-2 c =
     (says-accepted 2 (gave saidSeek single (ap (λ q. q .answer) e) (c .before .before .result .given .1)) refl)
     (c .before .before .before .before .walker-words .ensures ∙ ap (λ q. walkerWords (q .walker)) e)
 
--- src/lib.rt:160:1
 returns-3 : tie.Need-returns-3
 returns-3 c =
     let b = c .before .before .before .before .before .before .before .before .before .before .before .before .before .before .before in

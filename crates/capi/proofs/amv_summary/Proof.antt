@@ -12,31 +12,24 @@ use Rattle.chunk_index.proofs.index.summary.Reads as summary-reads
 use Rattle.error.proofs.AmvError.number.Reads as number-reads
 use Rattle.error.proofs.AmvError.place.Reads as place-reads
 
--- src/lib.rt:53:11
 summary-requires : tie.Need-summary-requires
 summary-requires c κs = search needs
 
--- src/lib.rt:54:27
 enum-known-counts : tie.Need-enum-known-counts
 enum-known-counts c = search needs
 
--- src/lib.rt:58:28
 enum-known-e : tie.Need-enum-known-e
 enum-known-e c = search needs
 
--- src/lib.rt:59:21
 place-requires : tie.Need-place-requires
 place-requires c κs = search needs
 
--- src/lib.rt:60:13
 number-requires : tie.Need-number-requires
 number-requires c κs = search needs
 
--- src/lib.rt:49:1
 returns : tie.Need-returns
 returns c = says-accepted 3 (gave saidSummary countsWords (c .before .before .before .before .summary .ensures) (c .before .before .counts .given .1)) refl
 
--- src/lib.rt:49:1
 returns-2 : tie.Need-returns-2
 returns-2 c = says-error 3 (c .before .before .before .before .e .given .0 .0) (gave saidSummary countsWords (c .before .before .before .before .before .before .summary .ensures) (c .before .before .before .before .e .given .1)) (c .number .ensures) (c .before .before .place .ensures)
 

@@ -6,15 +6,12 @@ use Rattle.capi.proofs.amv_validate_movi_interleave.Lts as lts
 use Rattle.chunk.proofs.interleave.validate_movi_interleave.Reads as validate-movi-interleave-reads
 use Rattle.words.proofs.out.result_out.Reads as result-out-reads
 
--- src/lib.rt:46:16
 validate-movi-interleave-requires : tie.Need-validate-movi-interleave-requires
 validate-movi-interleave-requires c κs = search needs
 
--- src/lib.rt:46:5
 result-out-requires : tie.Need-result-out-requires
 result-out-requires c κs = search needs
 
--- src/lib.rt:42:1
 returns : tie.Need-returns
 returns c = rw (c .before .before .validate-movi-interleave .ensures) at (c .result-out .ensures)
 

@@ -16,52 +16,40 @@ use Rattle.muxer.proofs.Writer.write_packet.Reads as write-packet-reads
 use Rattle.words.proofs.writer.at_counts.Reads as at-counts-reads
 use Rattle.words.proofs.writer.writer_of.Reads as writer-of-reads
 
--- src/lib.rt:223:37
 writer-of-requires : tie.Need-writer-of-requires
 writer-of-requires c κs = search needs
 
--- src/lib.rt:223:28
 enum-known-state : tie.Need-enum-known-state
 enum-known-state c = search needs
 
--- src/lib.rt:224:9
 enum-told : tie.Need-enum-told
 enum-told c = search needs
 
--- src/lib.rt:225:9
 returns : tie.Need-returns
 returns c =
     writes-illegal _ _ _ (known saidWriter (c .before .before .before .writer-of .ensures) (c .before .enum-told .given .1))
 
--- src/lib.rt:227:9
 write-packet-requires : tie.Need-write-packet-requires
 write-packet-requires c κs = search needs
 
--- src/lib.rt:230:15
 at-counts-requires : tie.Need-at-counts-requires
 at-counts-requires c κs = search needs
 
--- src/lib.rt:235:13
 enum-told-2 : tie.Need-enum-told-2
 enum-told-2 c = search needs
 
--- src/lib.rt:238:24
 enum-known-result : tie.Need-enum-known-result
 enum-known-result c = search needs
 
--- src/lib.rt:239:21
 place-requires : tie.Need-place-requires
 place-requires c κs = search needs
 
--- src/lib.rt:240:13
 number-requires : tie.Need-number-requires
 number-requires c κs = search needs
 
--- src/lib.rt:213:1
 same-length : tie.Need-same-length
 same-length c = search needs
 
--- src/lib.rt:213:1
 returns-2 : tie.Need-returns-2
 returns-2 c =
     let w = c .before .before .before in
@@ -73,11 +61,9 @@ returns-2 c =
     (packet-words (a .writer .now) (a .buf .now) (a .payload .now) (a .stream) legal (m .write-packet .ensures) (w .at-counts .ensures))
     (says-accepted 1 (ap (λ r. checked (said r)) (c .before .enum-told2 .given .1)) refl)
 
--- src/lib.rt:213:1
 same-length-2 : tie.Need-same-length-2
 same-length-2 c = search needs
 
--- src/lib.rt:213:1
 returns-3 : tie.Need-returns-3
 returns-3 c =
     let w = c .before .before .before .before .before .before in

@@ -11,40 +11,31 @@ use Rattle.words.proofs.out.result_out.Reads as result-out-reads
 use Rattle.words.proofs.writer.writer_of.Reads as writer-of-reads
 use Rattle.words.proofs.writer.writer_words.Reads as writer-words-reads
 
--- src/lib.rt:245:37
 writer-of-requires : tie.Need-writer-of-requires
 writer-of-requires c κs = search needs
 
--- src/lib.rt:245:28
 enum-known-state : tie.Need-enum-known-state
 enum-known-state c = search needs
 
--- src/lib.rt:246:9
 enum-told : tie.Need-enum-told
 enum-told c = search needs
 
--- src/lib.rt:247:9
 returns : tie.Need-returns
 returns c =
     writes-illegal _ _ _ (known saidWriter (c .before .before .before .writer-of .ensures) (c .before .enum-told .given .1))
 
--- src/lib.rt:249:9
 write-trailer-requires : tie.Need-write-trailer-requires
 write-trailer-requires c κs = search needs
 
--- src/lib.rt:251:15
 writer-words-requires : tie.Need-writer-words-requires
 writer-words-requires c κs = search needs
 
--- src/lib.rt:253:5
 result-out-requires : tie.Need-result-out-requires
 result-out-requires c κs = search needs
 
--- src/lib.rt:235:1
 same-length : tie.Need-same-length
 same-length c = search needs
 
--- src/lib.rt:235:1
 returns-2 : tie.Need-returns-2
 returns-2 c =
     let a = c .before .before .before .before .before .before .before .before .before .before .before .before .before .before .args in

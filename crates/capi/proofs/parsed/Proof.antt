@@ -6,19 +6,15 @@ use Rattle.capi.proofs.parsed.Lts as lts
 use Rattle.prelude.proofs.prelude.AmvPrelude.parse.Reads as parse-reads
 use Rattle.prelude.proofs.prelude.AmvPrelude.parse_strict.Reads as parse-strict-reads
 
--- src/lib.rt:109:9
 parse-strict-requires : tie.Need-parse-strict-requires
 parse-strict-requires c κs = search needs
 
--- src/lib.rt:111:9
 parse-requires : tie.Need-parse-requires
 parse-requires c κs = search needs
 
--- src/lib.rt:105:1
 returns : tie.Need-returns
 returns c = rw (c .before .if1 .taken) (c .parse-strict .ensures)
 
--- src/lib.rt:105:1
 returns-2 : tie.Need-returns-2
 returns-2 c = rw (c .before .if1 .left) (c .parse .ensures)
 

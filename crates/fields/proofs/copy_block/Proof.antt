@@ -11,33 +11,26 @@ use Rattle.fields.proofs.copy_block.Reads as reads
 use Rattle.fields.proofs.copy_block.Lts as lts
 use Rattle.fields.proofs.copy_bytes.Reads as copy-bytes-reads
 
--- src/lib.rt:114:16
 slice-aggregate-copy-bytes : tie.Need-slice-aggregate-copy-bytes
 slice-aggregate-copy-bytes c = search needs
 
--- src/lib.rt:114:5
 copy-bytes-requires : tie.Need-copy-bytes-requires
 copy-bytes-requires c κs = search needs
 
--- src/lib.rt:115:26
 array-share-prefix-block : tie.Need-array-share-prefix-block
 array-share-prefix-block c = search needs
 
--- src/lib.rt:115:26
 slice-aggregate-copy-bytes-2 : tie.Need-slice-aggregate-copy-bytes-2
 slice-aggregate-copy-bytes-2 c = sym (length-take-le _ _ (omega arith))
 
--- src/lib.rt:115:5
 copy-bytes-requires-2 : tie.Need-copy-bytes-requires-2
 copy-bytes-requires-2 c κs =
     let front = front-put _ _ (c .before .before .before .copy-bytes .ensures) in
     omega (arith, ap length front)
 
--- src/lib.rt:108:1
 same-length : tie.Need-same-length
 same-length c = search needs
 
--- src/lib.rt:108:1
 returns : tie.Need-returns
 returns c =
     let a = c .before .before .before .before .before .before .before .before .before .before .args in

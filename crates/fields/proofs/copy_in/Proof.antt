@@ -18,47 +18,36 @@ Inv-loop buf₀ off src i₀ buf i = (i ≤ length src) × (length buf ≡ lengt
 abbrev μ-loop : tie.MeasureT-loop
 μ-loop buf₀ off src i₀ buf i = length src - i
 
--- src/lib.rt:124:5
 loop-holds : tie.Need-loop-holds Inv-loop μ-loop
 loop-holds c = let a = c .before .before .args in (omega arith, refl, sym (put-nothing (a .buf .now) (a .off)))
 
--- src/lib.rt:124:19
 sub-loop : tie.Need-sub-loop Inv-loop μ-loop
 sub-loop c = search needs
 
--- src/lib.rt:125:25
 add-copy-block : tie.Need-add-copy-block Inv-loop μ-loop
 add-copy-block c = search needs
 
--- src/lib.rt:125:42
 add-copy-block-2 : tie.Need-add-copy-block-2 Inv-loop μ-loop
 add-copy-block-2 c = search needs
 
--- src/lib.rt:125:34
 sub-copy-block : tie.Need-sub-copy-block Inv-loop μ-loop
 sub-copy-block c = search needs
 
--- src/lib.rt:125:34
 part-copy-block-start : tie.Need-part-copy-block-start Inv-loop μ-loop
 part-copy-block-start c = search needs
 
--- src/lib.rt:125:34
 part-copy-block-end : tie.Need-part-copy-block-end Inv-loop μ-loop
 part-copy-block-end c = search needs
 
--- src/lib.rt:125:9
 copy-block-requires : tie.Need-copy-block-requires Inv-loop μ-loop
 copy-block-requires c κs = search needs
 
--- src/lib.rt:126:9
 add-i : tie.Need-add-i Inv-loop μ-loop
 add-i c = search needs
 
--- src/lib.rt:124:5
 loop-less : tie.Need-loop-less Inv-loop μ-loop
 loop-less c = search needs
 
--- src/lib.rt:124:5
 loop-again : tie.Need-loop-again Inv-loop μ-loop
 loop-again c =
     let a = c .before .before .before .before .before .before .before .before .before .args in
@@ -69,31 +58,24 @@ loop-again c =
           ∙ part-copied (a .buf .now) (a .off) (a .src .now) (l .i) (l .i + 4096) (omega arith) (omega arith) (omega arith) (l .inv .2),
     )
 
--- src/lib.rt:128:21
 add-copy-block-3 : tie.Need-add-copy-block-3 Inv-loop μ-loop
 add-copy-block-3 c = search needs
 
--- src/lib.rt:128:30
 sub-copy-block-2 : tie.Need-sub-copy-block-2 Inv-loop μ-loop
 sub-copy-block-2 c = search needs
 
--- src/lib.rt:128:30
 part-copy-block-start-2 : tie.Need-part-copy-block-start-2 Inv-loop μ-loop
 part-copy-block-start-2 c = search needs
 
--- src/lib.rt:128:30
 part-copy-block-end-2 : tie.Need-part-copy-block-end-2 Inv-loop μ-loop
 part-copy-block-end-2 c = search needs
 
--- src/lib.rt:128:5
 copy-block-requires-2 : tie.Need-copy-block-requires-2 Inv-loop μ-loop
 copy-block-requires-2 c κs = search needs
 
--- src/lib.rt:119:1
 same-length : tie.Need-same-length Inv-loop μ-loop
 same-length c = search needs
 
--- src/lib.rt:119:1
 returns : tie.Need-returns Inv-loop μ-loop
 returns c =
     let a = c .before .before .before .before .before .before .before .before .before .args in

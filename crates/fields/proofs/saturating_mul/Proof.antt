@@ -5,19 +5,15 @@ use Rattle.fields.proofs.saturating_mul.Tie as tie
 use Rattle.fields.proofs.saturating_mul.Reads as reads
 use Rattle.fields.proofs.saturating_mul.Lts as lts
 
--- src/lib.rt:70:19
 mul-product : tie.Need-mul-product
 mul-product c = record { fits = product-lt 32 (search needs) (search needs) }
 
--- src/lib.rt:72:9
 cast-result : tie.Need-cast-result
 cast-result c = search needs
 
--- src/lib.rt:67:1
 returns : tie.Need-returns
 returns c = search needs
 
--- src/lib.rt:67:1
 returns-2 : tie.Need-returns-2
 returns-2 c = search needs
 

@@ -9,31 +9,24 @@ use Rattle.fields.proofs.write_u16_le.Tie as tie
 use Rattle.fields.proofs.write_u16_le.Reads as reads
 use Rattle.fields.proofs.write_u16_le.Lts as lts
 
--- src/lib.rt:44:16
 cast-buf : tie.Need-cast-buf
 cast-buf c = search needs
 
--- src/lib.rt:44:5
 slice-write-buf : tie.Need-slice-write-buf
 slice-write-buf c = search needs
 
--- src/lib.rt:45:20
 cast-buf-2 : tie.Need-cast-buf-2
 cast-buf-2 c = search needs
 
--- src/lib.rt:45:9
 add-buf : tie.Need-add-buf
 add-buf c = search needs
 
--- src/lib.rt:45:5
 slice-write-buf-2 : tie.Need-slice-write-buf-2
 slice-write-buf-2 c = simp length-set (omega arith)
 
--- src/lib.rt:40:1
 same-length : tie.Need-same-length
 same-length c = search needs
 
--- src/lib.rt:40:1
 returns : tie.Need-returns
 returns c =
     let a = c .args in

@@ -7,31 +7,24 @@ use Rattle.fields.proofs.write_u32_le.Reads as reads
 use Rattle.fields.proofs.write_u32_le.Lts as lts
 use Rattle.fields.proofs.write_u16_le.Reads as write-u16-le-reads
 
--- src/lib.rt:51:28
 cast-write-u16-le : tie.Need-cast-write-u16-le
 cast-write-u16-le c = search needs
 
--- src/lib.rt:51:5
 write-u16-le-requires : tie.Need-write-u16-le-requires
 write-u16-le-requires c κs = search needs
 
--- src/lib.rt:52:23
 add-write-u16-le : tie.Need-add-write-u16-le
 add-write-u16-le c = search needs
 
--- src/lib.rt:52:32
 cast-write-u16-le-2 : tie.Need-cast-write-u16-le-2
 cast-write-u16-le-2 c = search needs
 
--- src/lib.rt:52:5
 write-u16-le-requires-2 : tie.Need-write-u16-le-requires-2
 write-u16-le-requires-2 c κs = search needs
 
--- src/lib.rt:47:1
 same-length : tie.Need-same-length
 same-length c = search needs
 
--- src/lib.rt:47:1
 returns : tie.Need-returns
 returns c =
     let a = c .before .before .before .before .before .before .before .before .before .args in

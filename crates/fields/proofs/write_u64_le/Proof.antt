@@ -7,31 +7,24 @@ use Rattle.fields.proofs.write_u64_le.Reads as reads
 use Rattle.fields.proofs.write_u64_le.Lts as lts
 use Rattle.fields.proofs.write_u32_le.Reads as write-u32-le-reads
 
--- src/lib.rt:62:28
 cast-write-u32-le : tie.Need-cast-write-u32-le
 cast-write-u32-le c = search needs
 
--- src/lib.rt:62:5
 write-u32-le-requires : tie.Need-write-u32-le-requires
 write-u32-le-requires c κs = search needs
 
--- src/lib.rt:63:23
 add-write-u32-le : tie.Need-add-write-u32-le
 add-write-u32-le c = search needs
 
--- src/lib.rt:63:32
 cast-write-u32-le-2 : tie.Need-cast-write-u32-le-2
 cast-write-u32-le-2 c = search needs
 
--- src/lib.rt:63:5
 write-u32-le-requires-2 : tie.Need-write-u32-le-requires-2
 write-u32-le-requires-2 c κs = search needs
 
--- src/lib.rt:58:1
 same-length : tie.Need-same-length
 same-length c = search needs
 
--- src/lib.rt:58:1
 returns : tie.Need-returns
 returns c =
     let a = c .before .before .before .before .before .before .before .before .before .args in

@@ -7,19 +7,15 @@ use Rattle.muxer.proofs.frames_after.Reads as reads
 use Rattle.muxer.proofs.frames_after.Lts as lts
 use Rattle.fields.proofs.min.Reads as min-reads
 
--- src/lib.rt:70:9
 min-requires : tie.Need-min-requires
 min-requires c κs = search needs
 
--- src/lib.rt:70:9
 add-result : tie.Need-add-result
 add-result c = search needs
 
--- src/lib.rt:66:1
 returns : tie.Need-returns
 returns c = rw (eq-eqb _ _ (c .before .if1 .taken)) (omega arith)
 
--- src/lib.rt:66:1
 returns-2 : tie.Need-returns-2
 returns-2 c = rw (ne-eqb _ _ (c .if1 .left))
 

@@ -9,19 +9,15 @@ use Rattle.muxer.proofs.has_room.Reads as reads
 use Rattle.muxer.proofs.has_room.Lts as lts
 use Rattle.fields.proofs.min.Reads as min-reads
 
--- src/lib.rt:45:9
 min-requires : tie.Need-min-requires
 min-requires c κs = search needs
 
--- src/lib.rt:47:9
 returns : tie.Need-returns
 returns c = let a = c .before .before .args in sym (fits-no (a .off + a .len) (a .room) (omega arith))
 
--- src/lib.rt:50:9
 returns-2 : tie.Need-returns-2
 returns-2 c = let a = c .before .before .before .args in sym (fits-no (a .off + a .len) (a .room) (omega arith))
 
--- src/lib.rt:42:1
 returns-3 : tie.Need-returns-3
 returns-3 c = let a = c .before .before .before .args in sym (fits-yes (a .off + a .len) (a .room) (omega arith) (omega arith))
 

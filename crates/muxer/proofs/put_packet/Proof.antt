@@ -12,39 +12,30 @@ use Rattle.fields.proofs.copy_in.Reads as copy-in-reads
 use Rattle.muxer.proofs.payload_size.Reads as payload-size-reads
 use Rattle.chunk.proofs.stream_tag.Reads as stream-tag-reads
 
--- src/lib.rt:106:36
 stream-tag-requires : tie.Need-stream-tag-requires
 stream-tag-requires c κs = search needs
 
--- src/lib.rt:106:5
 write-u32-le-requires : tie.Need-write-u32-le-requires
 write-u32-le-requires c κs = search needs
 
--- src/lib.rt:107:31
 add-write-u32-le : tie.Need-add-write-u32-le
 add-write-u32-le c = search needs
 
--- src/lib.rt:107:40
 payload-size-requires : tie.Need-payload-size-requires
 payload-size-requires c κs = search needs
 
--- src/lib.rt:107:5
 write-u32-le-requires-2 : tie.Need-write-u32-le-requires-2
 write-u32-le-requires-2 c κs = search needs
 
--- src/lib.rt:108:18
 add-copy-in : tie.Need-add-copy-in
 add-copy-in c = search needs
 
--- src/lib.rt:108:5
 copy-in-requires : tie.Need-copy-in-requires
 copy-in-requires c κs = search needs
 
--- src/lib.rt:101:1
 same-length : tie.Need-same-length
 same-length c = search needs
 
--- src/lib.rt:101:1
 returns : tie.Need-returns
 returns c = let s = c .before .before .before .before .before .before .before .before .before .before .before .before .before .before .before .before in
     let a = s .args in

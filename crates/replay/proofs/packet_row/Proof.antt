@@ -7,23 +7,19 @@ use Rattle.replay.proofs.packet_row.Tie as tie
 use Rattle.replay.proofs.packet_row.Reads as reads
 use Rattle.replay.proofs.packet_row.Lts as lts
 
--- src/lib.rt:84:16
 cast-t5 : tie.Need-cast-t5
 cast-t5 c = search needs
 
--- src/lib.rt:91:34
 enum-known-duration : tie.Need-enum-known-duration
 enum-known-duration c = search needs
 
 enum-told : tie.Need-enum-told
 enum-told c = search needs
 
--- src/lib.rt:79:1
 returns : tie.Need-returns
 returns c = let p = c .before .before .before .before .args .packet in
     sym (ap (λ d. packetRow (p .stream) (p .start) (p .len) (p .stamp) (ticks d)) (c .before .duration .given .1))
 
--- src/lib.rt:79:1
 returns-2 : tie.Need-returns-2
 returns-2 c = let p = c .before .before .before .args .packet in
     sym (ap (λ d. packetRow (p .stream) (p .start) (p .len) (p .stamp) (ticks d)) (c .enum-told .given .1))

@@ -10,47 +10,36 @@ use Rattle.error.proofs.AmvError.place.Reads as place-reads
 use Rattle.replay.proofs.packet_row.Reads as packet-row-reads
 use Rattle.replay.proofs.refusal_row.Reads as refusal-row-reads
 
--- src/lib.rt:102:28
 enum-known-answer : tie.Need-enum-known-answer
 enum-known-answer c = search needs
 
--- src/lib.rt:102:39
 packet-row-requires : tie.Need-packet-row-requires
 packet-row-requires c κs = search needs
 
--- src/lib.rt:103:28
 enum-told : tie.Need-enum-told
 enum-told c = search needs
 
--- src/lib.rt:103:28
 refusal-row-requires : tie.Need-refusal-row-requires
 refusal-row-requires c κs = search needs
 
--- src/lib.rt:104:25
 enum-known-answer-2 : tie.Need-enum-known-answer-2
 enum-known-answer-2 c = search needs
 
--- src/lib.rt:104:66
 number-requires : tie.Need-number-requires
 number-requires c κs = search needs
 
--- src/lib.rt:104:82
 place-requires : tie.Need-place-requires
 place-requires c κs = search needs
 
--- src/lib.rt:104:35
 refusal-row-requires-2 : tie.Need-refusal-row-requires-2
 refusal-row-requires-2 c κs = search needs
 
--- src/lib.rt:98:1
 returns : tie.Need-returns
 returns c = c .packet-row .ensures ∙ sym (ap nextRow (c .before .before .answer .given .1))
 
--- src/lib.rt:98:1
 returns-2 : tie.Need-returns-2
 returns-2 c = c .refusal-row .ensures ∙ sym (ap nextRow (c .before .enum-told .given .1))
 
--- src/lib.rt:98:1
 returns-3 : tie.Need-returns-3
 returns-3 c =
     c .refusal-row2 .ensures ∙ (λ i. refusalRow 3 (c .before .before .number .ensures i) (c .before .place .ensures i)) ∙ sym (ap nextRow (c .before .before .before .before .answer2 .given .1))

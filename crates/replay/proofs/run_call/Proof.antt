@@ -13,30 +13,24 @@ use Rattle.replay.proofs.read_row.Reads as read-row-reads
 use Rattle.replay.proofs.seek_row.Reads as seek-row-reads
 use Rattle.seek.proofs.seek_to_via_index.Reads as seek-to-via-index-reads
 
--- src/lib.rt:129:13
 next-packet-requires : tie.Need-next-packet-requires
 next-packet-requires c κs = search needs
 
--- src/lib.rt:133:18
 read-row-requires : tie.Need-read-row-requires
 read-row-requires c κs = search needs
 
--- src/lib.rt:132:9
 returns : tie.Need-returns
 returns c =
     let a = c .before .before .before .before .before .before .args in
     read-called (a .file .now) (a .table .now) (a .walker) (a .kind) (a .stream) (a .request) (c .before .before .next-packet .result) _ (c .before .before .before .if1 .taken)
     (c .before .before .next-packet .ensures .0) (c .before .before .next-packet .ensures .1) (c .read-row .ensures)
 
--- src/lib.rt:137:9
 seek-to-via-index-requires : tie.Need-seek-to-via-index-requires
 seek-to-via-index-requires c κs = search needs
 
--- src/lib.rt:141:14
 seek-row-requires : tie.Need-seek-row-requires
 seek-row-requires c κs = search needs
 
--- src/lib.rt:124:1
 returns-2 : tie.Need-returns-2
 returns-2 c =
     let s = c .before .before .before .before .before .before in

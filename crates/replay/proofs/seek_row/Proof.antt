@@ -10,31 +10,24 @@ use Rattle.error.proofs.AmvError.number.Reads as number-reads
 use Rattle.error.proofs.AmvError.place.Reads as place-reads
 use Rattle.replay.proofs.refusal_row.Reads as refusal-row-reads
 
--- src/lib.rt:112:24
 enum-known-result : tie.Need-enum-known-result
 enum-known-result c = search needs
 
--- src/lib.rt:120:25
 enum-known-result-2 : tie.Need-enum-known-result-2
 enum-known-result-2 c = search needs
 
--- src/lib.rt:120:66
 number-requires : tie.Need-number-requires
 number-requires c κs = search needs
 
--- src/lib.rt:120:82
 place-requires : tie.Need-place-requires
 place-requires c κs = search needs
 
--- src/lib.rt:120:35
 refusal-row-requires : tie.Need-refusal-row-requires
 refusal-row-requires c κs = search needs
 
--- src/lib.rt:108:1
 returns : tie.Need-returns
 returns c = sym (ap (λ r. soughtRow (saidSeek r)) (c .before .result .given .1))
 
--- src/lib.rt:108:1
 returns-2 : tie.Need-returns-2
 returns-2 c =
     c .refusal-row .ensures ∙ (λ i. refusalRow 5 (c .before .before .number .ensures i) (c .before .place .ensures i)) ∙ sym (ap (λ r. soughtRow (saidSeek r)) (c .before .before .before .before .result2 .given .1))

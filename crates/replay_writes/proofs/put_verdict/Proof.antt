@@ -14,43 +14,33 @@ use Rattle.replay_writes.proofs.put_verdict.Lts as lts
 use Rattle.error.proofs.AmvResult.number.Reads as number-reads
 use Rattle.error.proofs.AmvResult.place.Reads as place-reads
 
--- src/lib.rt:73:20
 number-requires : tie.Need-number-requires
 number-requires c κs = search needs
 
--- src/lib.rt:73:20
 cast-verdicts : tie.Need-cast-verdicts
 cast-verdicts c = search needs
 
--- src/lib.rt:73:5
 mul-verdicts : tie.Need-mul-verdicts
 mul-verdicts c = search needs
 
--- src/lib.rt:73:5
 slice-write-verdicts : tie.Need-slice-write-verdicts
 slice-write-verdicts c = search needs
 
--- src/lib.rt:74:24
 place-requires : tie.Need-place-requires
 place-requires c κs = search needs
 
--- src/lib.rt:74:14
 add-verdicts : tie.Need-add-verdicts
 add-verdicts c = search needs
 
--- src/lib.rt:74:5
 mul-verdicts-2 : tie.Need-mul-verdicts-2
 mul-verdicts-2 c = search needs
 
--- src/lib.rt:74:5
 slice-write-verdicts-2 : tie.Need-slice-write-verdicts-2
 slice-write-verdicts-2 c = simp length-set (omega arith)
 
--- src/lib.rt:69:1
 same-length : tie.Need-same-length
 same-length c = search needs
 
--- src/lib.rt:69:1
 returns : tie.Need-returns
 unfolding sets
 returns c =

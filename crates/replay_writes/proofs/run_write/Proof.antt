@@ -9,33 +9,26 @@ use Rattle.muxer.proofs.Writer.write_packet.Reads as write-packet-reads
 use Rattle.muxer.proofs.Writer.write_trailer.Reads as write-trailer-reads
 use Rattle.replay_writes.proofs.payload_in.Reads as payload-in-reads
 
--- src/lib.rt:61:9
 write-header-requires : tie.Need-write-header-requires
 write-header-requires c κs = search needs
 
--- src/lib.rt:61:9
 same-length : tie.Need-same-length
 same-length c = search needs
 
--- src/lib.rt:61:9
 returns : tie.Need-returns
 returns c =
     let a = c .before .before .before .before .before .before .before .args in
     header-step (a .writer) (a .buf .now) _ (a .kind) (a .stream) (c .before .before .before .before .if1 .taken) (c .before .before .write-header .ensures)
 
--- src/lib.rt:64:41
 payload-in-requires : tie.Need-payload-in-requires
 payload-in-requires c κs = search needs
 
--- src/lib.rt:64:9
 write-packet-requires : tie.Need-write-packet-requires
 write-packet-requires c κs = search needs
 
--- src/lib.rt:64:9
 same-length-2 : tie.Need-same-length-2
 same-length-2 c = search needs
 
--- src/lib.rt:64:9
 returns-2 : tie.Need-returns-2
 returns-2 c =
     let a = c .before .before .before .before .before .before .before .before .before .args in
@@ -43,15 +36,12 @@ returns-2 c =
     (c .before .before .before .before .before .if2 .taken)
     (rw (← c .before .before .before .payload-in .ensures) (c .before .before .write-packet .ensures))
 
--- src/lib.rt:66:5
 write-trailer-requires : tie.Need-write-trailer-requires
 write-trailer-requires c κs = search needs
 
--- src/lib.rt:49:1
 same-length-3 : tie.Need-same-length-3
 same-length-3 c = search needs
 
--- src/lib.rt:49:1
 returns-3 : tie.Need-returns-3
 returns-3 c =
     let a = c .before .before .before .before .before .before .before .before .args in

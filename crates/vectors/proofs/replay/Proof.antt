@@ -22,121 +22,96 @@ Inv-loop input counts₀ at₀ counts at = (at ≤ length input) × (length coun
 abbrev μ-loop : tie.MeasureT-loop
 μ-loop input counts₀ at₀ counts at = length input - at
 
--- src/main.rt:34:5
 loop-holds : tie.Need-loop-holds Inv-loop μ-loop
 loop-holds c = (omega arith, refl)
 
--- src/main.rt:35:35
 case-at-requires : tie.Need-case-at-requires Inv-loop μ-loop
 case-at-requires c κs = search needs
 
--- src/main.rt:35:27
 enum-known-case : tie.Need-enum-known-case Inv-loop μ-loop
 enum-known-case c = search needs
 
--- src/main.rt:36:23
 enum-told : tie.Need-enum-told Inv-loop μ-loop
 enum-told c = search needs
 
--- src/main.rt:36:13
 print-cut-requires : tie.Need-print-cut-requires Inv-loop μ-loop
 print-cut-requires c κs = search needs
 
--- src/main.rt:37:13
 returns : tie.Need-returns Inv-loop μ-loop
 returns c = search needs
 
--- src/main.rt:42:36
 shared-slice-read-function-of : tie.Need-shared-slice-read-function-of Inv-loop μ-loop
 shared-slice-read-function-of c = search needs
 
--- src/main.rt:42:13
 function-of-requires : tie.Need-function-of-requires Inv-loop μ-loop
 function-of-requires c κs = search needs
 
--- src/main.rt:43:28
 sub-run-case : tie.Need-sub-run-case Inv-loop μ-loop
 sub-run-case c =
     let p = whole (c .before .before .before .before .before .before .before .before .before .args .input .now) (c .before .before .before .before .before .before .before .loop .at) (c .before .before .before .before .before .case-at .ensures) (c .before .before .before .case .given .1) in
     omega (arith, p .0, p .1, p .2, p .3)
 
--- src/main.rt:43:28
 part-run-case-start : tie.Need-part-run-case-start Inv-loop μ-loop
 part-run-case-start c =
     let p = whole (c .before .before .before .before .before .before .before .before .before .args .input .now) (c .before .before .before .before .before .before .before .loop .at) (c .before .before .before .before .before .case-at .ensures) (c .before .before .before .case .given .1) in
     omega (arith, p .0, p .1, p .2, p .3)
 
--- src/main.rt:43:28
 part-run-case-end : tie.Need-part-run-case-end Inv-loop μ-loop
 part-run-case-end c =
     let p = whole (c .before .before .before .before .before .before .before .before .before .args .input .now) (c .before .before .before .before .before .before .before .loop .at) (c .before .before .before .before .before .case-at .ensures) (c .before .before .before .case .given .1) in
     omega (arith, p .0, p .1, p .2, p .3)
 
--- src/main.rt:43:51
 sub-run-case-2 : tie.Need-sub-run-case-2 Inv-loop μ-loop
 sub-run-case-2 c =
     let p = whole (c .before .before .before .before .before .before .before .before .before .before .args .input .now) (c .before .before .before .before .before .before .before .before .loop .at) (c .before .before .before .before .before .before .case-at .ensures) (c .before .before .before .before .case .given .1) in
     omega (arith, p .0, p .1, p .2, p .3)
 
--- src/main.rt:43:51
 part-run-case-start-2 : tie.Need-part-run-case-start-2 Inv-loop μ-loop
 part-run-case-start-2 c =
     let p = whole (c .before .before .before .before .before .before .before .before .before .before .args .input .now) (c .before .before .before .before .before .before .before .before .loop .at) (c .before .before .before .before .before .before .case-at .ensures) (c .before .before .before .before .case .given .1) in
     omega (arith, p .0, p .1, p .2, p .3)
 
--- src/main.rt:43:51
 part-run-case-end-2 : tie.Need-part-run-case-end-2 Inv-loop μ-loop
 part-run-case-end-2 c =
     let p = whole (c .before .before .before .before .before .before .before .before .before .before .args .input .now) (c .before .before .before .before .before .before .before .before .loop .at) (c .before .before .before .before .before .before .case-at .ensures) (c .before .before .before .before .case .given .1) in
     omega (arith, p .0, p .1, p .2, p .3)
 
--- src/main.rt:43:72
 head-of-requires : tie.Need-head-of-requires Inv-loop μ-loop
 head-of-requires c κs =
     let p = whole (c .before .before .before .before .before .before .before .before .before .before .before .args .input .now) (c .before .before .before .before .before .before .before .before .before .loop .at) (c .before .before .before .before .before .before .before .case-at .ensures) (c .before .before .before .before .before .case .given .1) in
     omega (arith, p .0, p .1, p .2, p .3)
 
--- src/main.rt:43:9
 run-case-requires : tie.Need-run-case-requires Inv-loop μ-loop
 run-case-requires c κs = search needs
 
--- src/main.rt:44:55
 mul-wrapping-add-u64 : tie.Need-mul-wrapping-add-u64 Inv-loop μ-loop
 mul-wrapping-add-u64 c = search needs
 
--- src/main.rt:44:55
 array-read-wrapping-add-u64 : tie.Need-array-read-wrapping-add-u64 Inv-loop μ-loop
 array-read-wrapping-add-u64 c = omega (arith, c .before .before .before .before .function-of .ensures .1, c .before .before .before .before .before .before .before .before .before .before .before .loop .inv .1)
 
--- src/main.rt:44:28
 wrapping-add-u64-requires : tie.Need-wrapping-add-u64-requires Inv-loop μ-loop
 wrapping-add-u64-requires c κs = search needs
 
--- src/main.rt:44:9
 mul-counts : tie.Need-mul-counts Inv-loop μ-loop
 mul-counts c = search needs
 
--- src/main.rt:44:9
 array-write-counts : tie.Need-array-write-counts Inv-loop μ-loop
 array-write-counts c = omega (arith, c .before .before .before .before .before .function-of .ensures .1, c .before .before .before .before .before .before .before .before .before .before .before .before .loop .inv .1)
 
--- src/main.rt:34:5
 loop-less : tie.Need-loop-less Inv-loop μ-loop
 loop-less c =
     let p = whole (c .before .before .before .before .before .before .before .before .before .before .before .before .before .before .args .input .now) (c .before .before .before .before .before .before .before .before .before .before .before .before .loop .at) (c .before .before .before .before .before .before .before .before .before .before .case-at .ensures) (c .before .before .before .before .before .before .before .before .case .given .1) in
     omega (arith, p .0, p .1, p .2, p .3)
 
--- src/main.rt:34:5
 loop-again : tie.Need-loop-again Inv-loop μ-loop
 loop-again c =
     let p = whole (c .before .before .before .before .before .before .before .before .before .before .before .before .before .before .args .input .now) (c .before .before .before .before .before .before .before .before .before .before .before .before .loop .at) (c .before .before .before .before .before .before .before .before .before .before .case-at .ensures) (c .before .before .before .before .before .before .before .before .case .given .1) in
     (omega (arith, p .2, p .3), simp length-set (c .before .before .before .before .before .before .before .before .before .before .before .before .loop .inv .1))
 
--- src/main.rt:47:5
 print-counts-requires : tie.Need-print-counts-requires Inv-loop μ-loop
 print-counts-requires c κs = search needs
 
--- src/main.rt:31:1
 returns-2 : tie.Need-returns-2 Inv-loop μ-loop
 returns-2 c = search needs
 

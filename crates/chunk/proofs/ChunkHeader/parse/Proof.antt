@@ -7,20 +7,16 @@ use Rattle.chunk.proofs.ChunkHeader.parse.Reads as reads
 use Rattle.chunk.proofs.ChunkHeader.parse.Lts as lts
 use Rattle.fields.proofs.read_u32_le.Reads as read-u32-le-reads
 
--- src/chunk.rt:58:13
 returns : tie.Need-returns
 unfolding chunkHeaderOf
 returns c = simp (lt-leb _ _ (c .if1 .taken))
 
--- src/chunk.rt:60:13
 read-u32-le-requires : tie.Need-read-u32-le-requires
 read-u32-le-requires c κs = search needs
 
--- src/chunk.rt:61:13
 read-u32-le-requires-2 : tie.Need-read-u32-le-requires-2
 read-u32-le-requires-2 c κs = search needs
 
--- src/chunk.rt:54:5
 returns-2 : tie.Need-returns-2
 unfolding chunkHeaderOf
 returns-2 c = simp (le-leb _ _ (c .before .before .if1 .left), c .before .read-u32-le .ensures, c .read-u32-le2 .ensures)

@@ -4,15 +4,12 @@ use Rattle.chunk.proofs.ChunkKind.classify.Tie as tie
 use Rattle.chunk.proofs.ChunkKind.classify.Reads as reads
 use Rattle.chunk.proofs.ChunkKind.classify.Lts as lts
 
--- src/chunk.rt:19:5
 returns : tie.Need-returns
 returns c = simp (eq-eqb _ _ (c .if1 .taken))
 
--- src/chunk.rt:19:5
 returns-2 : tie.Need-returns-2
 returns-2 c = simp (ne-eqb _ _ (c .before .if1 .left), eq-eqb _ _ (c .if2 .taken))
 
--- src/chunk.rt:19:5
 returns-3 : tie.Need-returns-3
 returns-3 c = simp (ne-eqb _ _ (c .before .if1 .left), ne-eqb _ _ (c .if2 .left))
 

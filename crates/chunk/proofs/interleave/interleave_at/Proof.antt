@@ -6,39 +6,30 @@ use Rattle.chunk.proofs.interleave.interleave_at.Reads as reads
 use Rattle.chunk.proofs.interleave.interleave_at.Lts as lts
 use Rattle.chunk.proofs.ChunkKind.classify.Reads as classify-reads
 
--- src/interleave.rt:16:11
 classify-requires : tie.Need-classify-requires
 classify-requires c κs = search needs
 
--- src/interleave.rt:18:16
 enum-told : tie.Need-enum-told
 enum-told c = search needs
 
--- src/interleave.rt:25:16
 enum-told-2 : tie.Need-enum-told-2
 enum-told-2 c = search needs
 
--- src/interleave.rt:31:47
 enum-told-3 : tie.Need-enum-told-3
 enum-told-3 c = search needs
 
--- src/interleave.rt:12:1
 returns : tie.Need-returns
 returns c = simp (sym (c .before .before .before .classify .ensures) ∙ c .before .enum-told .given .1, c .if1 .taken)
 
--- src/interleave.rt:12:1
 returns-2 : tie.Need-returns-2
 returns-2 c = simp (sym (c .before .before .before .classify .ensures) ∙ c .before .enum-told .given .1, c .if1 .left)
 
--- src/interleave.rt:12:1
 returns-3 : tie.Need-returns-3
 returns-3 c = simp (sym (c .before .before .before .classify .ensures) ∙ c .before .enum-told2 .given .1, c .if2 .taken)
 
--- src/interleave.rt:12:1
 returns-4 : tie.Need-returns-4
 returns-4 c = simp (sym (c .before .before .before .classify .ensures) ∙ c .before .enum-told2 .given .1, c .if2 .left)
 
--- src/interleave.rt:12:1
 returns-5 : tie.Need-returns-5
 returns-5 c = simp (sym (c .before .before .classify .ensures) ∙ c .enum-told3 .given .1)
 

@@ -21,45 +21,36 @@ Inv-loop tags i₀ i = (i ≤ length tags) × (interleaveFrom i (drop i tags) �
 abbrev μ-loop : tie.MeasureT-loop
 μ-loop tags i₀ i = length tags - i
 
--- src/interleave.rt:39:5
 loop-holds : tie.Need-loop-holds Inv-loop μ-loop
 loop-holds c = (omega arith, refl)
 
--- src/interleave.rt:40:32
 mul-interleave-at : tie.Need-mul-interleave-at Inv-loop μ-loop
 mul-interleave-at c = search needs
 
--- src/interleave.rt:40:32
 shared-slice-read-interleave-at : tie.Need-shared-slice-read-interleave-at Inv-loop μ-loop
 shared-slice-read-interleave-at c = search needs
 
--- src/interleave.rt:40:13
 interleave-at-requires : tie.Need-interleave-at-requires Inv-loop μ-loop
 interleave-at-requires c κs = search needs
 
 enum-told : tie.Need-enum-told Inv-loop μ-loop
 enum-told c = search needs
 
--- src/interleave.rt:42:13
 enum-told-2 : tie.Need-enum-told-2 Inv-loop μ-loop
 enum-told-2 c = search needs
 
--- src/interleave.rt:42:13
 returns : tie.Need-returns Inv-loop μ-loop
 returns c =
     let l = c .before .before .before .before .before .loop in
     let a = c .before .before .interleave-at in
     sym (interleave-no _ (l .i) (c .before .before .before .before .loop-test .taken) (a .result) (a .ensures) _ (c .enum-told2 .given .1)) ∙ l .inv .1
 
--- src/interleave.rt:44:9
 add-i : tie.Need-add-i Inv-loop μ-loop
 add-i c = search needs
 
--- src/interleave.rt:39:5
 loop-less : tie.Need-loop-less Inv-loop μ-loop
 loop-less c = search needs
 
--- src/interleave.rt:39:5
 loop-again : tie.Need-loop-again Inv-loop μ-loop
 loop-again c =
     let l = c .before .before .before .before .before .loop in
@@ -75,11 +66,9 @@ ends c =
     let e : c .before .loop .i ≡ length tags = omega arith in
     rw e (sym (c .before .loop .inv .1) ∙ ap (λ (n : ℕ). interleaveFrom n (drop n tags)) e ∙ interleave-end tags)
 
--- src/interleave.rt:35:1
 returns-2 : tie.Need-returns-2 Inv-loop μ-loop
 returns-2 c = sym (ends (c .before) ∙ ap (λ (b : Bool). ask b 65 (c .before .before .loop .i) (accepted tt)) (eq-eqb _ _ (c .if1 .taken)))
 
--- src/interleave.rt:35:1
 returns-3 : tie.Need-returns-3 Inv-loop μ-loop
 returns-3 c = sym (ends (c .before) ∙ ap (λ (b : Bool). ask b 65 (c .before .before .loop .i) (accepted tt)) (ne-eqb _ _ (c .if1 .left)))
 

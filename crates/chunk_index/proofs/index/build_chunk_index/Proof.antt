@@ -16,30 +16,24 @@ use Rattle.chunk_index.proofs.index.count_records.Reads as count-record
 use Rattle.chunk_index.proofs.index.write_records.Reads as write-records-reads
 use Rattle.fields.proofs.file.within_limit.Reads as within-limit-reads
 
--- src/index.rt:165:9
 within-limit-requires : tie.Need-within-limit-requires
 within-limit-requires c κs = search needs
 
--- src/index.rt:166:9
 returns : tie.Need-returns
 returns c =
     let a = c .before .before .before .before .args in
     let b = build-limit (a .file .now) (a .table .now) (sym (c .before .within-limit .ensures) ∙ not-true _ (c .if1 .taken)) in
     (sym (ap (λ (x : Built). x .answer) b), sym (ap (λ (x : Built). x .table) b))
 
--- src/index.rt:168:11
 count-records-requires : tie.Need-count-records-requires
 count-records-requires c κs = leb-true _ _ (sym (c .before .within-limit .ensures) ∙ not-false _ (c .if1 .left))
 
--- src/index.rt:169:28
 enum-known-e : tie.Need-enum-known-e
 enum-known-e c = search needs
 
--- src/index.rt:170:27
 enum-known-counts : tie.Need-enum-known-counts
 enum-known-counts c = search needs
 
--- src/index.rt:171:26
 add-count : tie.Need-add-count
 add-count c =
     let a = c .before .before .before .before .before .before .before .before .before .args in
@@ -47,7 +41,6 @@ add-count c =
     let all = sym (c .before .before .before .before .count-records .ensures) ∙ ap saidSummary (c .before .before .counts .given .1) in
     omega (arith, counted-all (a .file .now) (a .table .now) limit all, records-few (a .file .now), leb-true (length (a .file .now)) fileLimit limit)
 
--- src/index.rt:173:17
 returns-2 : tie.Need-returns-2
 returns-2 c =
     let a = c .before .before .before .before .before .before .before .before .before .before .args in
@@ -57,7 +50,6 @@ returns-2 c =
     let b = build-short (a .file .now) (a .table .now) limit all (omega (arith, c .if2 .taken, n)) in
     (sym (ap (λ (x : Built). x .answer) b), sym (ap (λ (x : Built). x .table) b))
 
--- src/index.rt:175:13
 write-records-requires : tie.Need-write-records-requires
 write-records-requires c κs =
     let a = c .before .before .before .before .before .before .before .before .before .before .before .args in
@@ -66,7 +58,6 @@ write-records-requires c κs =
     let n = counted-all (a .file .now) (a .table .now) limit all in
     (leb-true _ _ limit, omega (arith, c .before .if2 .left, n))
 
--- src/index.rt:162:1
 returns-3 : tie.Need-returns-3
 returns-3 c =
     let a = c .before .before .before .before .before .before .before .before .args in
@@ -75,11 +66,9 @@ returns-3 c =
     let b = build-refused (a .file .now) (a .table .now) limit none in
     (sym (ap (λ (x : Built). x .answer) b), sym (ap (λ (x : Built). x .table) b))
 
--- src/index.rt:162:1
 same-length : tie.Need-same-length
 same-length c = search needs
 
--- src/index.rt:162:1
 returns-4 : tie.Need-returns-4
 returns-4 c =
     let a = c .before .before .before .before .before .before .before .before .before .before .before .before .before .before .args in

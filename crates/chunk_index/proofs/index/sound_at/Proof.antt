@@ -9,23 +9,18 @@ use Rattle.chunk_index.proofs.index.sound_at.Reads as reads
 use Rattle.chunk_index.proofs.index.sound_at.Lts as lts
 use Rattle.fields.proofs.min.Reads as min-reads
 
--- src/index.rt:55:18
 min-requires : tie.Need-min-requires
 min-requires c κs = search needs
 
--- src/index.rt:56:22
 add-if1 : tie.Need-add-if1
 add-if1 c = search needs
 
--- src/index.rt:56:8
 sub-if1 : tie.Need-sub-if1
 sub-if1 c = search needs
 
--- src/index.rt:57:9
 returns : tie.Need-returns
 returns c = let a = c .before .before .before .args in rw (lt-leb (a .at + 8 + min 8 (a .size)) (length (a .file .now)) (omega (arith, c .before .min .ensures)))
 
--- src/index.rt:51:1
 returns-2 : tie.Need-returns-2
 returns-2 c = let a = c .before .before .before .args in rw (le-leb (a .at + 8 + min 8 (a .size)) (length (a .file .now)) (omega (arith, c .before .min .ensures)))
 

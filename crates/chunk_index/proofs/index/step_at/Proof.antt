@@ -18,61 +18,49 @@ use Rattle.demuxer.proofs.head.sample_count.Reads as sample-count-reads
 use Rattle.demuxer.proofs.position.Position.past_frame.Reads as past-frame-reads
 use Rattle.demuxer.proofs.position.Position.past_sound.Reads as past-sound-reads
 
--- src/index.rt:108:11
 indexed-at-requires : tie.Need-indexed-at-requires
 indexed-at-requires c κs = search needs
 
--- src/index.rt:109:26
 enum-told : tie.Need-enum-told
 enum-told c = search needs
 
--- src/index.rt:110:29
 enum-told-2 : tie.Need-enum-told-2
 enum-told-2 c = search needs
 
--- src/index.rt:111:24
 enum-known-size : tie.Need-enum-known-size
 enum-known-size c = search needs
 
--- src/index.rt:116:33
 past-frame-requires : tie.Need-past-frame-requires
 past-frame-requires c κs =
     let a = c .before .before .before .before .before in
     let g = step-means _ _ _ (sym (c .before .before .before .indexed-at .ensures) ∙ c .before .size .given .1) in
     walked-range (a .args .position) (a .pre .1) (omega (arith, g .there, a .pre .0))
 
--- src/index.rt:118:24
 enum-known-size-2 : tie.Need-enum-known-size-2
 enum-known-size-2 c = search needs
 
--- src/index.rt:123:44
 add-sample-count : tie.Need-add-sample-count
 add-sample-count c = search needs
 
--- src/index.rt:123:17
 sample-count-requires : tie.Need-sample-count-requires
 sample-count-requires c κs = search needs
 
--- src/index.rt:124:33
 past-sound-requires : tie.Need-past-sound-requires
 past-sound-requires c κs =
     let a = c .before .before .before .before .before .before in
     let g = step-means _ _ _ (sym (c .before .before .before .before .indexed-at .ensures) ∙ c .before .before .size2 .given .1) in
     walked-range (a .args .position) (a .pre .1) (omega (arith, g .there, a .pre .0))
 
--- src/index.rt:102:1
 returns : tie.Need-returns
 unfolding stepAt
 returns c = let a = c .before .before .before .before .args in
     (sym (ap (onIndexed (a .file .now) (a .position)) (sym (c .before .before .indexed-at .ensures) ∙ c .enum-told .given .1)), tt)
 
--- src/index.rt:102:1
 returns-2 : tie.Need-returns-2
 unfolding stepAt
 returns-2 c = let a = c .before .before .before .before .args in
     (sym (ap (onIndexed (a .file .now) (a .position)) (sym (c .before .before .indexed-at .ensures) ∙ c .enum-told2 .given .1)), tt)
 
--- src/index.rt:102:1
 returns-3 : tie.Need-returns-3
 unfolding stepAt
 returns-3 c = let a = c .before .before .before .before .before .before in
@@ -82,7 +70,6 @@ returns-3 c = let a = c .before .before .before .before .before .before in
       rw (c .past-frame .ensures) (walked-frame (a .args .position) _ (a .pre .1) (omega (arith, g .there, a .pre .0)) (omega arith)),
     )
 
--- src/index.rt:102:1
 returns-4 : tie.Need-returns-4
 unfolding stepAt
 returns-4 c = let a = c .before .before .before .before .before .before .before in

@@ -9,20 +9,16 @@ use Rattle.chunk_index.proofs.index.summary.Lts as lts
 use Rattle.chunk_index.proofs.index.count_records.Reads as count-records-reads
 use Rattle.fields.proofs.file.within_limit.Reads as within-limit-reads
 
--- src/index.rt:154:8
 within-limit-requires : tie.Need-within-limit-requires
 within-limit-requires c κs = search needs
 
--- src/index.rt:155:9
 count-records-requires : tie.Need-count-records-requires
 count-records-requires c κs = leb-true _ _ (sym (c .before .within-limit .ensures) ∙ c .if1 .taken)
 
--- src/index.rt:151:1
 returns : tie.Need-returns
 unfolding summaryOf
 returns c = rw (sym (c .before .before .within-limit .ensures) ∙ c .before .if1 .taken) (c .count-records .ensures)
 
--- src/index.rt:151:1
 returns-2 : tie.Need-returns-2
 unfolding summaryOf
 returns-2 c = rw (sym (c .before .within-limit .ensures) ∙ c .if1 .left)

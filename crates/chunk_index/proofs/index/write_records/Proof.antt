@@ -21,11 +21,9 @@ Inv-loop file table₀ position₀ to₀ table position to = Writing file table�
 abbrev μ-loop : tie.MeasureT-loop
 μ-loop file table₀ position₀ to₀ table position to = length file - position .cursor
 
--- src/index.rt:135:9
 new-requires : tie.Need-new-requires Inv-loop μ-loop
 new-requires c κs = search needs
 
--- src/index.rt:137:5
 loop-holds : tie.Need-loop-holds Inv-loop μ-loop
 loop-holds c =
     let room = c .before .before .before .pre .1 in
@@ -37,23 +35,18 @@ loop-holds c =
       rest = refl;
     })
 
--- src/index.rt:138:15
 step-at-requires : tie.Need-step-at-requires Inv-loop μ-loop
 step-at-requires c κs = (omega arith, c .loop .inv .walked)
 
--- src/index.rt:140:17
 enum-told : tie.Need-enum-told Inv-loop μ-loop
 enum-told c = search needs
 
--- src/index.rt:140:17
 same-length : tie.Need-same-length Inv-loop μ-loop
 same-length c = c .before .before .before .loop .inv .kept
 
--- src/index.rt:140:17
 returns : tie.Need-returns Inv-loop μ-loop
 returns c = write-end (c .before .before .before .loop .inv) (subst (StepMeans _ (c .before .before .before .loop .position)) (sym (c .before .before .step-at .ensures .0) ∙ c .enum-told .given .1) (step-gives _ (c .before .before .before .loop .position)))
 
--- src/index.rt:142:26
 enum-known-entry : tie.Need-enum-known-entry Inv-loop μ-loop
 enum-known-entry c = search needs
 
@@ -67,7 +60,6 @@ taken c =
 next-walked : (c : tie.After-entry Inv-loop μ-loop) → Walked (c .entry .given .0 .1 .0)
 next-walked c = subst NextWalked (c .entry .given .1) (c .before .before .step-at .ensures .1)
 
--- src/index.rt:143:17
 write-requires : tie.Need-write-requires Inv-loop μ-loop
 write-requires c κs =
     let s = taken (c .before .before) in
@@ -75,17 +67,14 @@ write-requires c κs =
     let h : l .position .cursor ≤ 4294967295 = omega (arith, s .there, c .before .before .before .before .before .before .before .before .before .pre .0) in
     (write-room (l .inv) s, rw (s .here) (walked-small (l .position) (l .inv .walked) h))
 
--- src/index.rt:145:17
 add-to : tie.Need-add-to Inv-loop μ-loop
 add-to c =
     let s = taken (c .before .before .before .before .before) in
     omega (arith, write-room (c .before .before .before .before .before .before .before .before .loop .inv) s, c .before .before .before .before .before .before .before .before .loop .inv .kept)
 
--- src/index.rt:137:5
 loop-less : tie.Need-loop-less Inv-loop μ-loop
 loop-less c = let s = taken (c .before .before .before .before .before) in omega (arith, s .there, s .on)
 
--- src/index.rt:137:5
 loop-again : tie.Need-loop-again Inv-loop μ-loop
 loop-again c =
     let s = taken (c .before .before .before .before .before) in

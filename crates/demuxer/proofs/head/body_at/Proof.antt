@@ -9,21 +9,17 @@ use Rattle.demuxer.proofs.head.body_at.Tie as tie
 use Rattle.demuxer.proofs.head.body_at.Reads as reads
 use Rattle.demuxer.proofs.head.body_at.Lts as lts
 
--- src/head.rt:63:9
 returns : tie.Need-returns
 unfolding bodyAt
 returns c = let a = c .before .args in rw (lt-leb (a .start + a .size) (length (a .file .now)) (omega arith))
 
--- src/head.rt:65:8
 sub-if2 : tie.Need-sub-if2
 sub-if2 c = search needs
 
--- src/head.rt:66:9
 returns-2 : tie.Need-returns-2
 unfolding bodyAt
 returns-2 c = let a = c .before .before .args in rw (lt-leb (a .start + a .size) (length (a .file .now)) (omega arith))
 
--- src/head.rt:58:1
 returns-3 : tie.Need-returns-3
 unfolding bodyAt
 returns-3 c = let a = c .before .before .args in rw (le-leb (a .start + a .size) (length (a .file .now)) (omega arith))

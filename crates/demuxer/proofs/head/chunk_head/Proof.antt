@@ -6,31 +6,24 @@ use Rattle.demuxer.proofs.head.chunk_head.Reads as reads
 use Rattle.demuxer.proofs.head.chunk_head.Lts as lts
 use Rattle.chunk.proofs.ChunkKind.classify.Reads as classify-reads
 
--- src/head.rt:40:11
 classify-requires : tie.Need-classify-requires
 classify-requires c κs = search needs
 
--- src/head.rt:41:29
 enum-told : tie.Need-enum-told
 enum-told c = search needs
 
--- src/head.rt:42:29
 enum-told-2 : tie.Need-enum-told-2
 enum-told-2 c = search needs
 
--- src/head.rt:43:32
 enum-told-3 : tie.Need-enum-told-3
 enum-told-3 c = search needs
 
--- src/head.rt:37:1
 returns : tie.Need-returns
 returns c = rw (sym (c .before .before .classify .ensures) ∙ c .enum-told .given .1)
 
--- src/head.rt:37:1
 returns-2 : tie.Need-returns-2
 returns-2 c = rw (sym (c .before .before .classify .ensures) ∙ c .enum-told2 .given .1)
 
--- src/head.rt:37:1
 returns-3 : tie.Need-returns-3
 returns-3 c = rw (sym (c .before .before .classify .ensures) ∙ c .enum-told3 .given .1)
 

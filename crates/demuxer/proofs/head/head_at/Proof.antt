@@ -14,47 +14,37 @@ use Rattle.demuxer.proofs.head.chunk_head.Reads as chunk-head-reads
 use Rattle.demuxer.proofs.head.is_trailer.Reads as is-trailer-reads
 use Rattle.fields.proofs.read_u32_le.Reads as read-u32-le-reads
 
--- src/head.rt:51:9
 returns : tie.Need-returns
 unfolding headAt
 returns c = let a = c .before .before .args in rw (lt-leb (a .at + 8) (length (a .file .now)) (omega arith))
 
--- src/head.rt:53:8
 sub-if2 : tie.Need-sub-if2
 sub-if2 c = search needs
 
--- src/head.rt:54:9
 returns-2 : tie.Need-returns-2
 unfolding headAt
 returns-2 c = let a = c .before .before .before .args in rw (lt-leb (a .at + 8) (length (a .file .now)) (omega arith))
 
--- src/head.rt:56:9
 read-u32-le-requires : tie.Need-read-u32-le-requires
 read-u32-le-requires c κs = search needs
 
--- src/head.rt:57:42
 add-read-u32-le : tie.Need-add-read-u32-le
 add-read-u32-le c = search needs
 
--- src/head.rt:57:9
 read-u32-le-requires-2 : tie.Need-read-u32-le-requires-2
 read-u32-le-requires-2 c κs = search needs
 
--- src/head.rt:58:8
 is-trailer-requires : tie.Need-is-trailer-requires
 is-trailer-requires c κs = search needs
 
--- src/head.rt:59:9
 returns-3 : tie.Need-returns-3
 returns-3 c =
     let a = c .before .before .before .before .before .before .before .args in
     sym (head-trailer (a .file .now) (a .at) (omega arith) (c .before .before .before .read-u32-le .ensures) (c .before .before .read-u32-le2 .ensures) (sym (c .before .is-trailer .ensures) ∙ c .if3 .taken))
 
--- src/head.rt:61:5
 chunk-head-requires : tie.Need-chunk-head-requires
 chunk-head-requires c κs = search needs
 
--- src/head.rt:47:1
 returns-4 : tie.Need-returns-4
 returns-4 c =
     let a = c .before .before .before .before .before .before .before .before .args in

@@ -4,11 +4,9 @@ use Rattle.demuxer.proofs.head.is_trailer.Tie as tie
 use Rattle.demuxer.proofs.head.is_trailer.Reads as reads
 use Rattle.demuxer.proofs.head.is_trailer.Lts as lts
 
--- src/head.rt:32:9
 returns : tie.Need-returns
 returns c = rw (ne-eqb _ _ (c .if1 .taken))
 
--- src/head.rt:28:1
 returns-2 : tie.Need-returns-2
 returns-2 c = rw (eq-eqb _ _ (c .if1 .left))
 

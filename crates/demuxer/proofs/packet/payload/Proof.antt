@@ -12,61 +12,47 @@ use Rattle.demuxer.proofs.packet.payload.Tie as tie
 use Rattle.demuxer.proofs.packet.payload.Reads as reads
 use Rattle.demuxer.proofs.packet.payload.Lts as lts
 
--- src/packet.rt:36:16
 sub-result : tie.Need-sub-result
 sub-result c = search needs
 
--- src/packet.rt:36:16
 part-result-start : tie.Need-part-result-start
 part-result-start c = search needs
 
--- src/packet.rt:36:16
 part-result-end : tie.Need-part-result-end
 part-result-end c = search needs
 
--- src/packet.rt:36:9
 returns : tie.Need-returns
 unfolding payloadOf
 returns c = let a = c .before .before .args in rw (lt-leb (a .packet .start + a .packet .len) (length (a .file .now)) (omega arith))
 
--- src/packet.rt:38:8
 sub-if2 : tie.Need-sub-if2
 sub-if2 c = search needs
 
--- src/packet.rt:39:16
 sub-result-2 : tie.Need-sub-result-2
 sub-result-2 c = search needs
 
--- src/packet.rt:39:16
 part-result-start-2 : tie.Need-part-result-start-2
 part-result-start-2 c = search needs
 
--- src/packet.rt:39:16
 part-result-end-2 : tie.Need-part-result-end-2
 part-result-end-2 c = search needs
 
--- src/packet.rt:39:9
 returns-2 : tie.Need-returns-2
 unfolding payloadOf
 returns-2 c = let a = c .before .before .before .args in rw (lt-leb (a .packet .start + a .packet .len) (length (a .file .now)) (omega arith))
 
--- src/packet.rt:41:15
 add-end : tie.Need-add-end
 add-end c = search needs
 
--- src/packet.rt:42:5
 sub-result-3 : tie.Need-sub-result-3
 sub-result-3 c = search needs
 
--- src/packet.rt:42:5
 part-result-start-3 : tie.Need-part-result-start-3
 part-result-start-3 c = search needs
 
--- src/packet.rt:42:5
 part-result-end-3 : tie.Need-part-result-end-3
 part-result-end-3 c = search needs
 
--- src/packet.rt:30:1
 returns-3 : tie.Need-returns-3
 unfolding payloadOf
 returns-3 c = let a = c .before .before .before .args in

@@ -4,11 +4,9 @@ use Rattle.demuxer.proofs.packet.shown.Tie as tie
 use Rattle.demuxer.proofs.packet.shown.Reads as reads
 use Rattle.demuxer.proofs.packet.shown.Lts as lts
 
--- src/packet.rt:24:9
 returns : tie.Need-returns
 returns c = rw (eq-eqb _ _ (c .if1 .taken))
 
--- src/packet.rt:20:1
 returns-2 : tie.Need-returns-2
 returns-2 c = rw (ne-eqb _ _ (c .if1 .left))
 

@@ -12,34 +12,27 @@ use Rattle.duration.proofs.AmvDuration.equals.Reads as equals-reads
 use Rattle.duration.proofs.AmvDuration.from_frame_count.Reads as from-frame-count-reads
 use Rattle.duration.proofs.AmvDuration.total_seconds.Reads as total-seconds-reads
 
--- src/duration.rt:85:13
 from-frame-count-requires : tie.Need-from-frame-count-requires
 from-frame-count-requires c κs = search needs
 
--- src/duration.rt:86:12
 equals-requires : tie.Need-equals-requires
 equals-requires c κs = search needs
 
--- src/duration.rt:87:13
 returns : tie.Need-returns
 returns c =
     let derived = c .before .before .from-frame-count .ensures in
     let a = c .before .before .before .args in
     rw (← derived) (sym (graded-exact (a .self) (c .before .before .from-frame-count .result) (sym (c .before .equals .ensures) ∙ c .if1 .taken)))
 
--- src/duration.rt:89:12
 total-seconds-requires : tie.Need-total-seconds-requires
 total-seconds-requires c κs = search needs
 
--- src/duration.rt:89:12
 add-if2 : tie.Need-add-if2
 add-if2 c = search needs
 
--- src/duration.rt:89:40
 total-seconds-requires-2 : tie.Need-total-seconds-requires-2
 total-seconds-requires-2 c κs = search needs
 
--- src/duration.rt:90:13
 returns-2 : tie.Need-returns-2
 returns-2 c =
     let derived = c .before .before .before .before .before .from-frame-count .ensures in
@@ -49,7 +42,6 @@ returns-2 c =
     (graded-truncated (a .self) (c .before .before .before .before .before .from-frame-count .result) (sym (c .before .before .before .before .equals .ensures) ∙ c .before .before .before .if1 .left)
     (rw (← c .before .before .total-seconds .ensures, ← c .before .total-seconds2 .ensures) (eq-eqb _ _ (c .if2 .taken)))))
 
--- src/duration.rt:82:5
 returns-3 : tie.Need-returns-3
 returns-3 c =
     let derived = c .before .before .before .before .before .from-frame-count .ensures in

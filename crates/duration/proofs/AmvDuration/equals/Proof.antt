@@ -6,15 +6,12 @@ use Rattle.duration.proofs.AmvDuration.equals.Tie as tie
 use Rattle.duration.proofs.AmvDuration.equals.Reads as reads
 use Rattle.duration.proofs.AmvDuration.equals.Lts as lts
 
--- src/duration.rt:74:13
 returns : tie.Need-returns
 returns c = simp (ne-eqb _ _ (c .if1 .taken))
 
--- src/duration.rt:77:13
 returns-2 : tie.Need-returns-2
 returns-2 c = simp (eq-eqb _ _ (c .before .before .before .if1 .left), ne-eqb _ _ (c .if2 .taken))
 
--- src/duration.rt:70:5
 returns-3 : tie.Need-returns-3
 returns-3 c =
     let a = c .before .before .before .before .before .before .before .before .args in

@@ -7,20 +7,16 @@ use Rattle.duration.proofs.AmvDuration.from_frame_count.Reads as reads
 use Rattle.duration.proofs.AmvDuration.from_frame_count.Lts as lts
 use Rattle.duration.proofs.AmvDuration.from_seconds.Reads as from-seconds-reads
 
--- src/duration.rt:61:13
 returns : tie.Need-returns
 unfolding runLength
 returns c = simp (eq-eqb _ _ (c .if1 .taken))
 
--- src/duration.rt:67:35
 div-from-seconds : tie.Need-div-from-seconds
 div-from-seconds c = search needs
 
--- src/duration.rt:67:9
 from-seconds-requires : tie.Need-from-seconds-requires
 from-seconds-requires c κs = search needs
 
--- src/duration.rt:57:5
 returns-2 : tie.Need-returns-2
 unfolding runLength
 returns-2 c = simp (ne-eqb _ _ (c .before .if1 .left)) (c .from-seconds .ensures)

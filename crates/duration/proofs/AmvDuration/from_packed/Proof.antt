@@ -9,19 +9,15 @@ use Rattle.duration.proofs.AmvDuration.from_packed.Tie as tie
 use Rattle.duration.proofs.AmvDuration.from_packed.Reads as reads
 use Rattle.duration.proofs.AmvDuration.from_packed.Lts as lts
 
--- src/duration.rt:24:22
 cast-t3 : tie.Need-cast-t3
 cast-t3 c = search needs
 
--- src/duration.rt:25:22
 cast-t6 : tie.Need-cast-t6
 cast-t6 c = search needs
 
--- src/duration.rt:26:20
 cast-t9 : tie.Need-cast-t9
 cast-t9 c = search needs
 
--- src/duration.rt:20:5
 returns : tie.Need-returns
 unfolding durationOf leBytes
 returns c = let p = c .args .packed in

@@ -6,35 +6,27 @@ use Rattle.duration.proofs.AmvDuration.from_seconds.Reads as reads
 use Rattle.duration.proofs.AmvDuration.from_seconds.Lts as lts
 use Rattle.fields.proofs.min.Reads as min-reads
 
--- src/duration.rt:47:13
 min-requires : tie.Need-min-requires
 min-requires c κs = search needs
 
--- src/duration.rt:48:43
 mul-after-hours : tie.Need-mul-after-hours
 mul-after-hours c = search needs
 
--- src/duration.rt:48:27
 sub-after-hours : tie.Need-sub-after-hours
 sub-after-hours c = search needs
 
--- src/duration.rt:49:13
 min-requires-2 : tie.Need-min-requires-2
 min-requires-2 c κs = search needs
 
--- src/duration.rt:51:22
 cast-t6 : tie.Need-cast-t6
 cast-t6 c = search needs
 
--- src/duration.rt:52:22
 cast-t7 : tie.Need-cast-t7
 cast-t7 c = search needs
 
--- src/duration.rt:53:20
 cast-t8 : tie.Need-cast-t8
 cast-t8 c = search needs
 
--- src/duration.rt:44:5
 returns : tie.Need-returns
 unfolding ofSeconds
 returns c = rw (c .min2 .ensures, c .before .min .ensures)

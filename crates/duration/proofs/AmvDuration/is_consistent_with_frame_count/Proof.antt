@@ -8,15 +8,12 @@ use Rattle.duration.proofs.AmvDuration.is_consistent_with_frame_count.L
 use Rattle.duration.proofs.AmvDuration.equals.Reads as equals-reads
 use Rattle.duration.proofs.AmvDuration.from_frame_count.Reads as from-frame-count-reads
 
--- src/duration.rt:79:21
 from-frame-count-requires : tie.Need-from-frame-count-requires
 from-frame-count-requires c κs = search needs
 
--- src/duration.rt:79:9
 equals-requires : tie.Need-equals-requires
 equals-requires c κs = search needs
 
--- src/duration.rt:76:5
 returns : tie.Need-returns
 returns c = rw (← c .before .from-frame-count .ensures) (c .equals .ensures)
 

@@ -7,35 +7,27 @@ use Rattle.duration.proofs.AmvDuration.to_packed.Tie as tie
 use Rattle.duration.proofs.AmvDuration.to_packed.Reads as reads
 use Rattle.duration.proofs.AmvDuration.to_packed.Lts as lts
 
--- src/duration.rt:34:10
 cast-result : tie.Need-cast-result
 cast-result c = search needs
 
--- src/duration.rt:34:40
 cast-result-2 : tie.Need-cast-result-2
 cast-result-2 c = search needs
 
--- src/duration.rt:34:33
 mul-result : tie.Need-mul-result
 mul-result c = search needs
 
--- src/duration.rt:34:9
 add-result : tie.Need-add-result
 add-result c = search needs
 
--- src/duration.rt:34:72
 cast-result-3 : tie.Need-cast-result-3
 cast-result-3 c = search needs
 
--- src/duration.rt:34:63
 mul-result-2 : tie.Need-mul-result-2
 mul-result-2 c = search needs
 
--- src/duration.rt:34:9
 add-result-2 : tie.Need-add-result-2
 add-result-2 c = search needs
 
--- src/duration.rt:31:5
 returns : tie.Need-returns
 unfolding packedOf le
 returns c = omega arith

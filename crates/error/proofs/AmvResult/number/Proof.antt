@@ -8,23 +8,18 @@ use Rattle.error.proofs.AmvResult.number.Reads as reads
 use Rattle.error.proofs.AmvResult.number.Lts as lts
 use Rattle.error.proofs.AmvError.number.Reads as number-reads
 
--- src/lib.rt:220:30
 enum-told : tie.Need-enum-told
 enum-told c = search needs
 
--- src/lib.rt:221:28
 enum-known-self : tie.Need-enum-known-self
 enum-known-self c = search needs
 
--- src/lib.rt:221:34
 number-requires : tie.Need-number-requires
 number-requires c κs = search needs
 
--- src/lib.rt:216:5
 returns : tie.Need-returns
 returns c = search needs
 
--- src/lib.rt:216:5
 returns-2 : tie.Need-returns-2
 returns-2 c = c .number .ensures ∙ sym (ap (λ r. numberOf (said r)) (c .before .before .self .given .1))
 

@@ -8,23 +8,18 @@ use Rattle.error.proofs.AmvResult.place.Reads as reads
 use Rattle.error.proofs.AmvResult.place.Lts as lts
 use Rattle.error.proofs.AmvError.place.Reads as place-reads
 
--- src/lib.rt:229:30
 enum-told : tie.Need-enum-told
 enum-told c = search needs
 
--- src/lib.rt:230:28
 enum-known-self : tie.Need-enum-known-self
 enum-known-self c = search needs
 
--- src/lib.rt:230:34
 place-requires : tie.Need-place-requires
 place-requires c κs = search needs
 
--- src/lib.rt:225:5
 returns : tie.Need-returns
 returns c = search needs
 
--- src/lib.rt:225:5
 returns-2 : tie.Need-returns-2
 returns-2 c = c .place .ensures ∙ sym (ap (λ r. placeOf (said r)) (c .before .before .self .given .1))
 

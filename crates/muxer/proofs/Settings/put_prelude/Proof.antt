@@ -13,15 +13,12 @@ use Rattle.muxer.proofs.Settings.put_prelude.Lts as lts
 use Rattle.fields.proofs.copy_in.Reads as copy-in-reads
 use Rattle.prelude.proofs.build.build_prelude_bytes.Reads as build-prelude-bytes-reads
 
--- src/lib.rt:109:13
 build-prelude-bytes-requires : tie.Need-build-prelude-bytes-requires
 build-prelude-bytes-requires c κs = search needs
 
--- src/lib.rt:111:25
 slice-aggregate-copy-in : tie.Need-slice-aggregate-copy-in
 slice-aggregate-copy-in c = search needs
 
--- src/lib.rt:111:9
 copy-in-requires : tie.Need-copy-in-requires
 copy-in-requires c κs = let s = c .before .before .before .before .before .args .self in
     let e : length (c .before .before .before .build-prelude-bytes .result .bytes) ≡ 316 =
@@ -29,11 +26,9 @@ copy-in-requires c κs = let s = c .before .before .before .before .before .args
     ∙ length-prelude (s .width) (s .height) (s .fps) 0 (s .rate) (s .channels) in
     omega arith
 
--- src/lib.rt:105:5
 same-length : tie.Need-same-length
 same-length c = search needs
 
--- src/lib.rt:105:5
 returns : tie.Need-returns
 returns c = let a = c .before .before .before .before .before .before .before .before .args in
     let s = a .self in

@@ -6,19 +6,15 @@ use Rattle.muxer.proofs.Writer.after_packet.Lts as lts
 use Rattle.muxer.proofs.frames_after.Reads as frames-after-reads
 use Rattle.muxer.proofs.packet_len.Reads as packet-len-reads
 
--- src/lib.rt:236:37
 packet-len-requires : tie.Need-packet-len-requires
 packet-len-requires c κs = search needs
 
--- src/lib.rt:236:22
 add-t6 : tie.Need-add-t6
 add-t6 c = search needs
 
--- src/lib.rt:237:21
 frames-after-requires : tie.Need-frames-after-requires
 frames-after-requires c κs = search needs
 
--- src/lib.rt:227:5
 returns : tie.Need-returns
 returns c = rw (c .before .before .packet-len .ensures, c .frames-after .ensures)
 

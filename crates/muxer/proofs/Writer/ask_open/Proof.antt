@@ -5,19 +5,15 @@ use Rattle.muxer.proofs.Writer.ask_open.Tie as tie
 use Rattle.muxer.proofs.Writer.ask_open.Reads as reads
 use Rattle.muxer.proofs.Writer.ask_open.Lts as lts
 
--- src/lib.rt:150:13
 returns : tie.Need-returns
 returns c = rw (not-true (c .before .before .args .self .begun) (c .if1 .taken))
 
--- src/lib.rt:153:13
 returns-2 : tie.Need-returns-2
 returns-2 c = rw (not-false (c .before .before .before .args .self .begun) (c .before .if1 .left), c .if2 .taken)
 
--- src/lib.rt:156:13
 returns-3 : tie.Need-returns-3
 returns-3 c = rw (not-false (c .before .before .before .before .before .args .self .begun) (c .before .before .before .if1 .left), c .before .before .if2 .left, lt-leb 316 (c .before .before .before .before .before .args .self .written) (omega arith))
 
--- src/lib.rt:146:5
 returns-4 : tie.Need-returns-4
 returns-4 c = rw (not-false (c .before .before .before .before .before .args .self .begun) (c .before .before .before .if1 .left), c .before .before .if2 .left, le-leb 316 (c .before .before .before .before .before .args .self .written) (omega arith))
 

@@ -13,15 +13,12 @@ use Rattle.muxer.proofs.Writer.ask_open.Reads as ask-open-reads
 use Rattle.muxer.proofs.has_room.Reads as has-room-reads
 use Rattle.muxer.proofs.packet_len.Reads as packet-len-reads
 
--- src/lib.rt:185:36
 ask-open-requires : tie.Need-ask-open-requires
 ask-open-requires c κs = search needs
 
--- src/lib.rt:185:31
 enum-known-e : tie.Need-enum-known-e
 enum-known-e c = search needs
 
--- src/lib.rt:186:13
 returns : tie.Need-returns
 unfolding packetQuestions
 returns c = sym (open-err (c .before .before .before .before .args .self) _ (c .before .before .before .ask-open .ensures) (c .before .e .given .1))
@@ -29,29 +26,24 @@ returns c = sym (open-err (c .before .before .before .before .args .self) _ (c .
 enum-told : tie.Need-enum-told
 enum-told c = search needs
 
--- src/lib.rt:189:13
 returns-2 : tie.Need-returns-2
 unfolding packetQuestions
 returns-2 c = let a = c .before .before .before .before .args in
     sym (open-ok (a .self) _ (c .before .before .before .ask-open .ensures) (c .before .enum-told .given .1)
     ∙ rw (lt-leb (a .size) 4294967295 (omega arith)))
 
--- src/lib.rt:192:13
 returns-3 : tie.Need-returns-3
 unfolding packetQuestions
 returns-3 c = let a = c .before .before .before .before .before .args in
     sym (open-ok (a .self) _ (c .before .before .before .before .ask-open .ensures) (c .before .before .enum-told .given .1)
     ∙ rw (le-leb (a .size) 4294967295 (omega arith), lt-leb (a .stream) 1 (omega arith)))
 
--- src/lib.rt:194:41
 packet-len-requires : tie.Need-packet-len-requires
 packet-len-requires c κs = search needs
 
--- src/lib.rt:194:12
 has-room-requires : tie.Need-has-room-requires
 has-room-requires c κs = search needs
 
--- src/lib.rt:182:5
 returns-4 : tie.Need-returns-4
 unfolding packetQuestions
 returns-4 c = let a = c .before .before .before .before .before .before .before .before .args in
@@ -62,7 +54,6 @@ returns-4 c = let a = c .before .before .before .before .before .before .before 
       ap (λ (n : ℕ). fits (a .self .written + n) (a .room)) (sym (c .before .before .packet-len .ensures)) ∙ sym (c .before .has-room .ensures) ∙ c .if3 .taken,
     ))
 
--- src/lib.rt:182:5
 returns-5 : tie.Need-returns-5
 unfolding packetQuestions
 returns-5 c = let a = c .before .before .before .before .before .before .before .before .args in

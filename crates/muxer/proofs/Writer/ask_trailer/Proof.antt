@@ -9,15 +9,12 @@ use Rattle.muxer.proofs.Writer.ask_trailer.Lts as lts
 use Rattle.muxer.proofs.Writer.ask_open.Reads as ask-open-reads
 use Rattle.muxer.proofs.has_room.Reads as has-room-reads
 
--- src/lib.rt:183:36
 ask-open-requires : tie.Need-ask-open-requires
 ask-open-requires c κs = search needs
 
--- src/lib.rt:183:31
 enum-known-e : tie.Need-enum-known-e
 enum-known-e c = search needs
 
--- src/lib.rt:184:13
 returns : tie.Need-returns
 unfolding trailerQuestions
 returns c = sym (open-err (c .before .before .before .before .args .self) _ (c .before .before .before .ask-open .ensures) (c .before .e .given .1))
@@ -25,17 +22,14 @@ returns c = sym (open-err (c .before .before .before .before .args .self) _ (c .
 enum-told : tie.Need-enum-told
 enum-told c = search needs
 
--- src/lib.rt:186:12
 has-room-requires : tie.Need-has-room-requires
 has-room-requires c κs = search needs
 
--- src/lib.rt:180:5
 returns-2 : tie.Need-returns-2
 unfolding trailerQuestions
 returns-2 c = sym (open-ok (c .before .before .before .before .before .args .self) _ (c .before .before .before .before .ask-open .ensures) (c .before .before .enum-told .given .1)
     ∙ rw (sym (c .before .has-room .ensures) ∙ c .if1 .taken))
 
--- src/lib.rt:180:5
 returns-3 : tie.Need-returns-3
 unfolding trailerQuestions
 returns-3 c = sym (open-ok (c .before .before .before .before .before .args .self) _ (c .before .before .before .before .ask-open .ensures) (c .before .before .enum-told .given .1)

@@ -13,34 +13,27 @@ use Rattle.duration.proofs.AmvDuration.from_frame_count.Reads as from-frame-cou
 use Rattle.duration.proofs.AmvDuration.to_packed.Reads as to-packed-reads
 use Rattle.fields.proofs.write_u32_le.Reads as write-u32-le-reads
 
--- src/lib.rt:242:13
 returns : tie.Need-returns
 unfolding patchRunLength
 returns c = rw (le-ltb 0 (c .before .before .before .args .self .settings .fps) (omega arith))
 
--- src/lib.rt:245:13
 returns-2 : tie.Need-returns-2
 unfolding patchRunLength
 returns-2 c = let s = c .before .before .before .before .before .args .self in
     rw (lt-ltb 0 (s .settings .fps) (omega arith), le-ltb 0 (s .frames) (omega arith))
 
--- src/lib.rt:247:13
 from-frame-count-requires : tie.Need-from-frame-count-requires
 from-frame-count-requires c κs = search needs
 
--- src/lib.rt:248:39
 to-packed-requires : tie.Need-to-packed-requires
 to-packed-requires c κs = search needs
 
--- src/lib.rt:248:9
 write-u32-le-requires : tie.Need-write-u32-le-requires
 write-u32-le-requires c κs = search needs
 
--- src/lib.rt:235:5
 same-length : tie.Need-same-length
 same-length c = search needs
 
--- src/lib.rt:235:5
 returns-3 : tie.Need-returns-3
 unfolding patchRunLength
 returns-3 c = let s = c .before .before .before .before .before .before .before .before .before .before .before .args .self in

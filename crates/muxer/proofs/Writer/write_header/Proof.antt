@@ -13,46 +13,36 @@ use Rattle.muxer.proofs.Writer.after_header.Reads as after-header-reads
 use Rattle.muxer.proofs.Writer.ask_header.Reads as ask-header-reads
 use Rattle.muxer.proofs.Wrote.refused.Reads as refused-reads
 
--- src/lib.rt:297:15
 ask-header-requires : tie.Need-ask-header-requires
 ask-header-requires c κs = search needs
 
--- src/lib.rt:298:28
 enum-known-e : tie.Need-enum-known-e
 enum-known-e c = search needs
 
--- src/lib.rt:298:34
 refused-requires : tie.Need-refused-requires
 refused-requires c κs = search needs
 
--- src/lib.rt:300:21
 enum-told : tie.Need-enum-told
 enum-told c = search needs
 
--- src/lib.rt:301:17
 put-prelude-requires : tie.Need-put-prelude-requires
 put-prelude-requires c κs = let a = c .before .before .before .before .before .before .args in
     steps.header-passed (a .self) _ (steps.told-ok (c .before .before .before .before .ask-header .ensures) (c .before .before .enum-told .given .1)) .inside
 
--- src/lib.rt:302:21
 after-header-requires : tie.Need-after-header-requires
 after-header-requires c κs = search needs
 
--- src/lib.rt:303:17
 accepted-requires : tie.Need-accepted-requires
 accepted-requires c κs = search needs
 
--- src/lib.rt:294:5
 returns : tie.Need-returns
 unfolding headerCall
 returns c = let a = c .before .before .before .before .before .before .args in
     steps.meets-err (a .self) (a .buf .now) _ _ (c .before .before .before .before .ask-header .ensures) (c .before .before .e .given .1) (c .refused .ensures)
 
--- src/lib.rt:294:5
 same-length : tie.Need-same-length
 same-length c = search needs
 
--- src/lib.rt:294:5
 returns-2 : tie.Need-returns-2
 unfolding headerCall
 returns-2 c = let a = c .before .before .before .before .before .before .before .before .before .before .before .args in

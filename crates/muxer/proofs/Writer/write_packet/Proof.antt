@@ -13,49 +13,39 @@ use Rattle.muxer.proofs.Writer.ask_packet.Reads as ask-packet-reads
 use Rattle.muxer.proofs.Wrote.refused.Reads as refused-reads
 use Rattle.muxer.proofs.put_packet.Reads as put-packet-reads
 
--- src/lib.rt:311:15
 ask-packet-requires : tie.Need-ask-packet-requires
 ask-packet-requires c κs = search needs
 
--- src/lib.rt:312:28
 enum-known-e : tie.Need-enum-known-e
 enum-known-e c = search needs
 
--- src/lib.rt:312:34
 refused-requires : tie.Need-refused-requires
 refused-requires c κs = search needs
 
--- src/lib.rt:314:28
 enum-told : tie.Need-enum-told
 enum-told c = search needs
 
--- src/lib.rt:314:17
 put-packet-requires : tie.Need-put-packet-requires
 put-packet-requires c κs = let a = c .before .before .before .before .before .before .args in
     let p = steps.packet-passed (a .self) _ (a .stream) _ (steps.told-ok (c .before .before .before .ask-packet .ensures) (c .before .enum-told .given .1)) in
     (p .inside, p .short)
 
--- src/lib.rt:315:21
 after-packet-requires : tie.Need-after-packet-requires
 after-packet-requires c κs = let a = c .before .before .before .before .before .before .before .before .before .args in
     let told = c .before .before .before .before in
     steps.packet-passed (a .self) _ (a .stream) _ (steps.told-ok (told .before .before .ask-packet .ensures) (told .enum-told .given .1)) .limit
 
--- src/lib.rt:316:17
 accepted-requires : tie.Need-accepted-requires
 accepted-requires c κs = search needs
 
--- src/lib.rt:308:5
 returns : tie.Need-returns
 unfolding packetCall
 returns c = let a = c .before .before .before .before .before .before .before .args in
     steps.meets-err (a .self) (a .buf .now) _ _ (c .before .before .before .before .ask-packet .ensures) (c .before .before .e .given .1) (c .refused .ensures)
 
--- src/lib.rt:308:5
 same-length : tie.Need-same-length
 same-length c = search needs
 
--- src/lib.rt:308:5
 returns-2 : tie.Need-returns-2
 unfolding packetCall
 returns-2 c = let a = c .before .before .before .before .before .before .before .before .before .before .before .args in

@@ -18,28 +18,22 @@ use Rattle.muxer.proofs.Writer.patch_run_length.Reads as patch-run-leng
 use Rattle.muxer.proofs.Wrote.refused.Reads as refused-reads
 use Rattle.muxer.proofs.put_trailer.Reads as put-trailer-reads
 
--- src/lib.rt:324:15
 ask-trailer-requires : tie.Need-ask-trailer-requires
 ask-trailer-requires c κs = search needs
 
--- src/lib.rt:325:28
 enum-known-e : tie.Need-enum-known-e
 enum-known-e c = search needs
 
--- src/lib.rt:325:34
 refused-requires : tie.Need-refused-requires
 refused-requires c κs = search needs
 
--- src/lib.rt:327:29
 enum-told : tie.Need-enum-told
 enum-told c = search needs
 
--- src/lib.rt:327:17
 put-trailer-requires : tie.Need-put-trailer-requires
 put-trailer-requires c κs = let a = c .before .before .before .before .before .args in
     steps.trailer-passed (a .self) _ (steps.told-ok (c .before .before .before .ask-trailer .ensures) (c .before .enum-told .given .1)) .inside
 
--- src/lib.rt:328:17
 patch-run-length-requires : tie.Need-patch-run-length-requires
 patch-run-length-requires c κs = let a = c .before .before .before .before .before .before .before .before .before .args in
     let told = c .before .before .before .before .before in
@@ -49,27 +43,22 @@ patch-run-length-requires c κs = let a = c .before .before .before .before .bef
     let l : length (c .before .before .before .put-trailer .last .0) ≡ length (a .buf .now) = search needs in
     omega arith
 
--- src/lib.rt:329:21
 after-trailer-requires : tie.Need-after-trailer-requires
 after-trailer-requires c κs = let a = c .before .before .before .before .before .before .before .before .before .before .before .before .args in
     let told = c .before .before .before .before .before .before .before .before in
     steps.trailer-passed (a .self) _ (steps.told-ok (told .before .before .ask-trailer .ensures) (told .enum-told .given .1)) .limit
 
--- src/lib.rt:330:17
 accepted-requires : tie.Need-accepted-requires
 accepted-requires c κs = search needs
 
--- src/lib.rt:321:5
 returns : tie.Need-returns
 unfolding trailerCall
 returns c = let a = c .before .before .before .before .before .before .args in
     steps.meets-err (a .self) (a .buf .now) _ _ (c .before .before .before .before .ask-trailer .ensures) (c .before .before .e .given .1) (c .refused .ensures)
 
--- src/lib.rt:321:5
 same-length : tie.Need-same-length
 same-length c = search needs
 
--- src/lib.rt:321:5
 returns-2 : tie.Need-returns-2
 unfolding trailerCall
 returns-2 c = let a = c .before .before .before .before .before .before .before .before .before .before .before .before .before .before .args in

@@ -7,16 +7,13 @@ use Rattle.parse.proofs.wave_format.cb_size.Reads as reads
 use Rattle.parse.proofs.wave_format.cb_size.Lts as lts
 use Rattle.fields.proofs.read_u16_le.Reads as read-u16-le-reads
 
--- src/wave_format.rt:30:9
 read-u16-le-requires : tie.Need-read-u16-le-requires
 read-u16-le-requires c κs = search needs
 
--- src/wave_format.rt:24:1
 returns : tie.Need-returns
 unfolding cbSizeOf
 returns c = simp (lt-leb _ _ (c .if1 .taken))
 
--- src/wave_format.rt:24:1
 returns-2 : tie.Need-returns-2
 unfolding cbSizeOf
 returns-2 c = simp (le-leb _ _ (c .before .if1 .left), c .read-u16-le .ensures)

@@ -22,31 +22,24 @@ whole : (width height fps duration rate channels : ℕ)
 unfolding leBytes put layout preludeBytes writeItems headerStores waveFormatStores
 whole width height fps duration rate channels = refl
 
--- src/build.rt:80:18
 slice-aggregate-write-layout : tie.Need-slice-aggregate-write-layout
 slice-aggregate-write-layout c = search needs
 
--- src/build.rt:80:5
 write-layout-requires : tie.Need-write-layout-requires
 write-layout-requires c κs = search needs
 
--- src/build.rt:81:23
 slice-aggregate-write-header-body : tie.Need-slice-aggregate-write-header-body
 slice-aggregate-write-header-body c = search needs
 
--- src/build.rt:81:5
 write-header-body-requires : tie.Need-write-header-body-requires
 write-header-body-requires c κs = search needs
 
--- src/build.rt:82:23
 slice-aggregate-write-wave-format : tie.Need-slice-aggregate-write-wave-format
 slice-aggregate-write-wave-format c = search needs
 
--- src/build.rt:82:5
 write-wave-format-requires : tie.Need-write-wave-format-requires
 write-wave-format-requires c κs = search needs
 
--- src/build.rt:69:1
 returns : tie.Need-returns
 returns c =
     let a = c .before .before .before .before .before .before .before .before .before .args in

@@ -8,42 +8,33 @@ use Rattle.prelude.proofs.build.write_item.Reads as reads
 use Rattle.prelude.proofs.build.write_item.Lts as lts
 use Rattle.fields.proofs.write_u32_le.Reads as write-u32-le-reads
 
--- src/build.rt:28:25
 enum-known-item : tie.Need-enum-known-item
 enum-known-item c = search needs
 
--- src/build.rt:28:42
 write-u32-le-requires : tie.Need-write-u32-le-requires
 write-u32-le-requires c κs = let w = rw (c .before .before .item .given .1) at (c .before .before .before .before .before .pre .1) in omega arith
 
--- src/build.rt:29:26
 enum-known-item-2 : tie.Need-enum-known-item-2
 enum-known-item-2 c = search needs
 
--- src/build.rt:29:43
 write-u32-le-requires-2 : tie.Need-write-u32-le-requires-2
 write-u32-le-requires-2 c κs = let w = rw (c .before .before .item2 .given .1) at (c .before .before .before .before .before .pre .1) in omega arith
 
 enum-told : tie.Need-enum-told
 enum-told c = search needs
 
--- src/build.rt:22:1
 same-length : tie.Need-same-length
 same-length c = search needs
 
--- src/build.rt:22:1
 returns : tie.Need-returns
 returns c = rw (c .before .before .before .before .before .item .given .1) (c .before .before .write-u32-le .ensures)
 
--- src/build.rt:22:1
 same-length-2 : tie.Need-same-length-2
 same-length-2 c = search needs
 
--- src/build.rt:22:1
 returns-2 : tie.Need-returns-2
 returns-2 c = rw (c .before .before .before .before .before .item2 .given .1) (c .before .before .write-u32-le2 .ensures)
 
--- src/build.rt:22:1
 returns-3 : tie.Need-returns-3
 returns-3 c = search needs
 

@@ -19,27 +19,21 @@ Inv-loop bytes₀ i₀ bytes i = (i ≤ 22) × (length bytes ≡ length bytes₀
 abbrev μ-loop : tie.MeasureT-loop
 μ-loop bytes₀ i₀ bytes i = 22 - i
 
--- src/build.rt:39:5
 loop-holds : tie.Need-loop-holds Inv-loop μ-loop
 loop-holds c = (omega arith, refl, refl)
 
--- src/build.rt:40:27
 at-requires : tie.Need-at-requires Inv-loop μ-loop
 at-requires c κs = search needs
 
--- src/build.rt:40:9
 write-item-requires : tie.Need-write-item-requires Inv-loop μ-loop
 write-item-requires c κs = (omega arith, rw (c .at .ensures) (within _))
 
--- src/build.rt:41:9
 add-i : tie.Need-add-i Inv-loop μ-loop
 add-i c = omega arith
 
--- src/build.rt:39:5
 loop-less : tie.Need-loop-less Inv-loop μ-loop
 loop-less c = omega arith
 
--- src/build.rt:39:5
 loop-again : tie.Need-loop-again Inv-loop μ-loop
 unfolding layout
 loop-again c = let l = c .before .before .before .before .before .before .loop in
@@ -47,11 +41,9 @@ loop-again c = let l = c .before .before .before .before .before .before .loop i
     let at = c .before .before .before .at .ensures in
     (omega arith, omega arith, rw (w .ensures, at) (sym (written-step (l .bytes) layout (l .i) (omega arith)) ∙ l .inv .2))
 
--- src/build.rt:34:1
 same-length : tie.Need-same-length Inv-loop μ-loop
 same-length c = c .before .loop .inv .1
 
--- src/build.rt:34:1
 returns : tie.Need-returns Inv-loop μ-loop
 unfolding layout writeItems
 returns c = let l = c .before .loop in

@@ -8,19 +8,15 @@ use Rattle.prelude.proofs.prelude.reaches.Tie as tie
 use Rattle.prelude.proofs.prelude.reaches.Reads as reads
 use Rattle.prelude.proofs.prelude.reaches.Lts as lts
 
--- src/prelude.rt:34:9
 returns : tie.Need-returns
 returns c = let a = c .before .args in rw (lt-leb (a .place + a .len) (length (a .file .now)) (omega arith))
 
--- src/prelude.rt:36:8
 sub-if2 : tie.Need-sub-if2
 sub-if2 c = search needs
 
--- src/prelude.rt:37:9
 returns-2 : tie.Need-returns-2
 returns-2 c = let a = c .before .before .args in rw (lt-leb (a .place + a .len) (length (a .file .now)) (omega arith))
 
--- src/prelude.rt:30:1
 returns-3 : tie.Need-returns-3
 returns-3 c = let a = c .before .before .args in rw (le-leb (a .place + a .len) (length (a .file .now)) (omega arith))
 

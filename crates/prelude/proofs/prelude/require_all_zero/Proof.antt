@@ -15,41 +15,33 @@ Inv-loop file place len i₀ i = (i ≤ len) × (zeros file (place + i) (len - i
 abbrev μ-loop : tie.MeasureT-loop
 μ-loop file place len i₀ i = len - i
 
--- src/prelude.rt:108:5
 loop-holds : tie.Need-loop-holds Inv-loop μ-loop
 loop-holds c = (omega arith, rw (add-zero, sub-zero))
 
--- src/prelude.rt:109:18
 add-at : tie.Need-add-at Inv-loop μ-loop
 add-at c = omega arith
 
--- src/prelude.rt:110:12
 shared-slice-read-if1 : tie.Need-shared-slice-read-if1 Inv-loop μ-loop
 shared-slice-read-if1 c = omega arith
 
--- src/prelude.rt:111:13
 returns : tie.Need-returns Inv-loop μ-loop
 returns c =
     let l = c .before .before .before .loop in
     let a = c .before .before .before .before .args in
     sym (zeros-no (a .file .now) (a .place) (a .len) (l .i) (omega arith) (c .if1 .taken)) ∙ l .inv .1
 
--- src/prelude.rt:113:9
 add-i : tie.Need-add-i Inv-loop μ-loop
 add-i c = omega arith
 
--- src/prelude.rt:108:5
 loop-less : tie.Need-loop-less Inv-loop μ-loop
 loop-less c = omega arith
 
--- src/prelude.rt:108:5
 loop-again : tie.Need-loop-again Inv-loop μ-loop
 loop-again c =
     let l = c .before .before .before .loop in
     let a = c .before .before .before .before .args in
     (omega arith, sym (zeros-on (a .file .now) (a .place) (a .len) (l .i) (omega arith) (c .if1 .left)) ∙ l .inv .1)
 
--- src/prelude.rt:103:1
 returns-2 : tie.Need-returns-2 Inv-loop μ-loop
 unfolding zeros
 returns-2 c = let l = c .before .loop in

@@ -7,16 +7,13 @@ use Rattle.prelude.proofs.prelude.require_body.Reads as reads
 use Rattle.prelude.proofs.prelude.require_body.Lts as lts
 use Rattle.prelude.proofs.prelude.reaches.Reads as reaches-reads
 
--- src/prelude.rt:70:8
 reaches-requires : tie.Need-reaches-requires
 reaches-requires c κs = search needs
 
--- src/prelude.rt:67:1
 returns : tie.Need-returns
 unfolding askBody
 returns c = rw (sym (c .before .reaches .ensures) ∙ c .if1 .taken)
 
--- src/prelude.rt:67:1
 returns-2 : tie.Need-returns-2
 unfolding askBody
 returns-2 c = rw (sym (c .before .reaches .ensures) ∙ c .if1 .left)

@@ -6,39 +6,30 @@ use Rattle.prelude.proofs.prelude.require_item.Lts as lts
 use Rattle.prelude.proofs.prelude.require_body.Reads as require-body-reads
 use Rattle.prelude.proofs.prelude.require_word.Reads as require-word-reads
 
--- src/prelude.rt:71:25
 enum-known-item : tie.Need-enum-known-item
 enum-known-item c = search needs
 
--- src/prelude.rt:71:42
 require-word-requires : tie.Need-require-word-requires
 require-word-requires c κs = search needs
 
--- src/prelude.rt:77:26
 enum-known-item-2 : tie.Need-enum-known-item-2
 enum-known-item-2 c = search needs
 
--- src/prelude.rt:77:43
 require-word-requires-2 : tie.Need-require-word-requires-2
 require-word-requires-2 c κs = search needs
 
--- src/prelude.rt:83:26
 enum-known-item-3 : tie.Need-enum-known-item-3
 enum-known-item-3 c = search needs
 
--- src/prelude.rt:83:41
 require-body-requires : tie.Need-require-body-requires
 require-body-requires c κs = search needs
 
--- src/prelude.rt:67:1
 returns : tie.Need-returns
 returns c = rw (c .before .before .item .given .1) (c .require-word .ensures)
 
--- src/prelude.rt:67:1
 returns-2 : tie.Need-returns-2
 returns-2 c = rw (c .before .before .item2 .given .1) (c .require-word2 .ensures)
 
--- src/prelude.rt:67:1
 returns-3 : tie.Need-returns-3
 returns-3 c = rw (c .before .before .item3 .given .1) (c .require-body .ensures)
 

@@ -21,26 +21,21 @@ Inv-loop file i₀ i = (i ≤ 22) × (askItems file (drop i layout) ≡ askItems
 abbrev μ-loop : tie.MeasureT-loop
 μ-loop file i₀ i = 22 - i
 
--- src/prelude.rt:92:5
 loop-holds : tie.Need-loop-holds Inv-loop μ-loop
 loop-holds c = (omega arith, refl)
 
--- src/prelude.rt:93:43
 at-requires : tie.Need-at-requires Inv-loop μ-loop
 at-requires c κs = search needs
 
--- src/prelude.rt:93:13
 require-item-requires : tie.Need-require-item-requires Inv-loop μ-loop
 require-item-requires c κs = search needs
 
 enum-told : tie.Need-enum-told Inv-loop μ-loop
 enum-told c = search needs
 
--- src/prelude.rt:95:13
 enum-told-2 : tie.Need-enum-told-2 Inv-loop μ-loop
 enum-told-2 c = search needs
 
--- src/prelude.rt:95:13
 returns : tie.Need-returns Inv-loop μ-loop
 unfolding layout
 returns c =
@@ -49,15 +44,12 @@ returns c =
     let asked = c .before .before .require-item .ensures ∙ ap (askItem f) (c .before .before .before .at .ensures) in
     ap said (c .enum-told2 .given .1) ∙ sym (then-err _ asked (c .enum-told2 .given .1)) ∙ sym (items-step f layout (l .i) (omega arith)) ∙ l .inv .1
 
--- src/prelude.rt:97:9
 add-i : tie.Need-add-i Inv-loop μ-loop
 add-i c = omega arith
 
--- src/prelude.rt:92:5
 loop-less : tie.Need-loop-less Inv-loop μ-loop
 loop-less c = omega arith
 
--- src/prelude.rt:92:5
 loop-again : tie.Need-loop-again Inv-loop μ-loop
 unfolding layout
 loop-again c =
@@ -66,7 +58,6 @@ loop-again c =
     let asked = c .before .before .require-item .ensures ∙ ap (askItem f) (c .before .before .before .at .ensures) in
     (omega arith, sym (then-ok _ asked (c .enum-told .given .1)) ∙ sym (items-step f layout (l .i) (omega arith)) ∙ l .inv .1)
 
--- src/prelude.rt:88:1
 returns-2 : tie.Need-returns-2 Inv-loop μ-loop
 unfolding layout askItems
 returns-2 c =

@@ -10,25 +10,20 @@ use Rattle.prelude.proofs.prelude.require_word.Lts as lts
 use Rattle.fields.proofs.read_u32_le.Reads as read-u32-le-reads
 use Rattle.prelude.proofs.prelude.reaches.Reads as reaches-reads
 
--- src/prelude.rt:42:8
 reaches-requires : tie.Need-reaches-requires
 reaches-requires c κs = search needs
 
--- src/prelude.rt:43:12
 read-u32-le-requires : tie.Need-read-u32-le-requires
 read-u32-le-requires c κs = leb-true _ _ (sym (c .before .reaches .ensures) ∙ c .if1 .taken)
 
--- src/prelude.rt:39:1
 returns : tie.Need-returns
 unfolding askWord
 returns c = rw (sym (c .before .before .before .reaches .ensures) ∙ c .before .before .if1 .taken, ← c .before .read-u32-le .ensures, eq-eqb _ _ (c .if2 .taken))
 
--- src/prelude.rt:39:1
 returns-2 : tie.Need-returns-2
 unfolding askWord
 returns-2 c = rw (sym (c .before .before .before .reaches .ensures) ∙ c .before .before .if1 .taken, ← c .before .read-u32-le .ensures, ne-eqb _ _ (c .if2 .left))
 
--- src/prelude.rt:39:1
 returns-3 : tie.Need-returns-3
 unfolding askWord
 returns-3 c = rw (sym (c .before .reaches .ensures) ∙ c .if1 .left)

@@ -9,62 +9,51 @@ use Rattle.prelude.proofs.prelude.require_zero_ranges.Reads as reads
 use Rattle.prelude.proofs.prelude.require_zero_ranges.Lts as lts
 use Rattle.prelude.proofs.prelude.require_all_zero.Reads as require-all-zero-reads
 
--- src/prelude.rt:123:9
 require-all-zero-requires : tie.Need-require-all-zero-requires
 require-all-zero-requires c κs = search needs
 
 enum-told : tie.Need-enum-told
 enum-told c = search needs
 
--- src/prelude.rt:125:9
 enum-told-2 : tie.Need-enum-told-2
 enum-told-2 c = search needs
 
--- src/prelude.rt:125:9
 returns : tie.Need-returns
 unfolding zeroRanges
 returns c = ap said (c .enum-told2 .given .1) ∙ sym (then-err _ (c .before .before .require-all-zero .ensures) (c .enum-told2 .given .1))
 
--- src/prelude.rt:127:9
 require-all-zero-requires-2 : tie.Need-require-all-zero-requires-2
 require-all-zero-requires-2 c κs = search needs
 
 enum-told-3 : tie.Need-enum-told-3
 enum-told-3 c = search needs
 
--- src/prelude.rt:129:9
 enum-told-4 : tie.Need-enum-told-4
 enum-told-4 c = search needs
 
--- src/prelude.rt:129:9
 returns-2 : tie.Need-returns-2
 unfolding zeroRanges
 returns-2 c = let first = then-ok _ (c .before .before .before .before .before .require-all-zero .ensures) (c .before .before .before .enum-told .given .1) in
     ap said (c .enum-told4 .given .1) ∙ sym (first ∙ then-err _ (c .before .before .require-all-zero2 .ensures) (c .enum-told4 .given .1))
 
--- src/prelude.rt:131:9
 require-all-zero-requires-3 : tie.Need-require-all-zero-requires-3
 require-all-zero-requires-3 c κs = search needs
 
 enum-told-5 : tie.Need-enum-told-5
 enum-told-5 c = search needs
 
--- src/prelude.rt:133:9
 enum-told-6 : tie.Need-enum-told-6
 enum-told-6 c = search needs
 
--- src/prelude.rt:133:9
 returns-3 : tie.Need-returns-3
 unfolding zeroRanges
 returns-3 c = let first = then-ok _ (c .before .before .before .before .before .before .before .before .require-all-zero .ensures) (c .before .before .before .before .before .before .enum-told .given .1) in
     let second = then-ok _ (c .before .before .before .before .before .require-all-zero2 .ensures) (c .before .before .before .enum-told3 .given .1) in
     ap said (c .enum-told6 .given .1) ∙ sym (first ∙ second ∙ then-err _ (c .before .before .require-all-zero3 .ensures) (c .enum-told6 .given .1))
 
--- src/prelude.rt:135:5
 require-all-zero-requires-4 : tie.Need-require-all-zero-requires-4
 require-all-zero-requires-4 c κs = search needs
 
--- src/prelude.rt:119:1
 returns-4 : tie.Need-returns-4
 unfolding zeroRanges
 returns-4 c = let first = then-ok _ (c .before .before .before .before .before .before .before .before .before .require-all-zero .ensures) (c .before .before .before .before .before .before .before .enum-told .given .1) in

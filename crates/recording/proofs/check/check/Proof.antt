@@ -9,27 +9,21 @@ use Rattle.recording.proofs.check.check.Lts as lts
 use Rattle.prelude.proofs.prelude.AmvPrelude.parse_strict.Reads as parse-strict-reads
 use Rattle.recording.proofs.check.check_chunks.Reads as check-chunks-reads
 
--- src/check.rt:151:11
 parse-strict-requires : tie.Need-parse-strict-requires
 parse-strict-requires c κs = search needs
 
--- src/check.rt:152:31
 enum-known-e : tie.Need-enum-known-e
 enum-known-e c = search needs
 
--- src/check.rt:153:36
 enum-told : tie.Need-enum-told
 enum-told c = search needs
 
--- src/check.rt:153:36
 check-chunks-requires : tie.Need-check-chunks-requires
 check-chunks-requires c κs = strict-within _ _ (sym (c .before .before .parse-strict .ensures) ∙ ap saidPrelude (c .enum-told .given .1))
 
--- src/check.rt:148:1
 returns : tie.Need-returns
 returns c = sym (check-after _ _ (sym (c .before .before .before .parse-strict .ensures) ∙ ap saidPrelude (c .before .e .given .1)))
 
--- src/check.rt:148:1
 returns-2 : tie.Need-returns-2
 returns-2 c = c .check-chunks .ensures ∙ sym (check-after _ _ (sym (c .before .before .before .parse-strict .ensures) ∙ ap saidPrelude (c .before .enum-told .given .1)))
 

@@ -28,72 +28,58 @@ Inv-loop file position₀ paired₀ position paired = Walked position × Checkin
 abbrev μ-loop : tie.MeasureT-loop
 μ-loop file position₀ paired₀ position paired = length file - position .cursor
 
--- src/check.rt:118:9
 new-requires : tie.Need-new-requires Inv-loop μ-loop
 new-requires c κs = search needs
 
--- src/check.rt:120:5
 loop-holds : tie.Need-loop-holds Inv-loop μ-loop
 loop-holds c =
     rw (c .new .ensures)
     (record { cursor-le = omega arith; chunks-le = omega arith; samples-le = omega arith }, check-starts _)
 
--- src/check.rt:121:22
 add-number : tie.Need-add-number Inv-loop μ-loop
 add-number c = let l = c .before .loop in omega (arith, l .inv .0 .chunks-le, l .inv .0 .cursor-le)
 
--- src/check.rt:122:15
 checked-at-requires : tie.Need-checked-at-requires Inv-loop μ-loop
 checked-at-requires c κs = search needs
 
--- src/check.rt:129:29
 enum-told : tie.Need-enum-told Inv-loop μ-loop
 enum-told c = search needs
 
--- src/check.rt:129:29
 paired-all-requires : tie.Need-paired-all-requires Inv-loop μ-loop
 paired-all-requires c κs = search needs
 
--- src/check.rt:124:17
 returns : tie.Need-returns Inv-loop μ-loop
 returns c =
     let l = c .before .before .before .before .before .loop in
     let e = step-means _ _ _ (sym (c .before .before .before .checked-at .ensures) ∙ c .before .enum-told .given .1) in
     ap (λ (b : Bool). accepted (totalsAt (l .position) b)) (c .paired-all .ensures) ∙ check-ends _ (l .position) (l .paired) (l .inv .1) e
 
--- src/check.rt:132:30
 enum-known-e : tie.Need-enum-known-e Inv-loop μ-loop
 enum-known-e c = search needs
 
--- src/check.rt:133:17
 returns-2 : tie.Need-returns-2 Inv-loop μ-loop
 returns-2 c =
     let l = c .before .before .before .before .before .loop in
     let e = step-means _ _ _ (sym (c .before .before .before .checked-at .ensures) ∙ c .before .e .given .1) in
     check-fails _ (l .position) (l .paired) _ (l .inv .1) e
 
--- src/check.rt:135:28
 enum-known-size : tie.Need-enum-known-size Inv-loop μ-loop
 enum-known-size c = search needs
 
--- src/check.rt:136:17
 paired-on-requires : tie.Need-paired-on-requires Inv-loop μ-loop
 paired-on-requires c κs = search needs
 
--- src/check.rt:137:17
 past-frame-requires : tie.Need-past-frame-requires Inv-loop μ-loop
 past-frame-requires c κs =
     let l = c .before .before .before .before .before .before .loop in
     let g = step-means _ _ _ (sym (c .before .before .before .before .checked-at .ensures) ∙ c .before .before .size .given .1) in
     walked-range (l .position) (l .inv .0) (omega (arith, g .there, c .before .before .before .before .before .before .before .before .before .pre))
 
--- src/check.rt:120:5
 loop-less : tie.Need-loop-less Inv-loop μ-loop
 loop-less c =
     let g = step-means _ _ _ (sym (c .before .before .before .before .before .checked-at .ensures) ∙ c .before .before .before .size .given .1) in
     rw (c .past-frame .ensures) (omega (arith, g .there))
 
--- src/check.rt:120:5
 loop-again : tie.Need-loop-again Inv-loop μ-loop
 loop-again c =
     let l = c .before .before .before .before .before .before .before .loop in
@@ -101,36 +87,29 @@ loop-again c =
     rw (c .past-frame .ensures, c .before .paired-on .ensures)
     (walked-frame (l .position) _ (l .inv .0) (omega (arith, g .there, c .before .before .before .before .before .before .before .before .before .before .pre)) (omega arith), check-frame _ (l .position) (l .paired) _ (l .inv .1) g)
 
--- src/check.rt:139:28
 enum-known-size-2 : tie.Need-enum-known-size-2 Inv-loop μ-loop
 enum-known-size-2 c = search needs
 
--- src/check.rt:140:17
 paired-on-requires-2 : tie.Need-paired-on-requires-2 Inv-loop μ-loop
 paired-on-requires-2 c κs = search needs
 
--- src/check.rt:141:48
 add-sample-count : tie.Need-add-sample-count Inv-loop μ-loop
 add-sample-count c = let l = c .before .before .before .before .before .before .loop in omega (arith, l .inv .0 .cursor-le)
 
--- src/check.rt:141:21
 sample-count-requires : tie.Need-sample-count-requires Inv-loop μ-loop
 sample-count-requires c κs = search needs
 
--- src/check.rt:142:17
 past-sound-requires : tie.Need-past-sound-requires Inv-loop μ-loop
 past-sound-requires c κs =
     let l = c .before .before .before .before .before .before .before .loop in
     let g = step-means _ _ _ (sym (c .before .before .before .before .before .checked-at .ensures) ∙ c .before .before .before .size2 .given .1) in
     walked-range (l .position) (l .inv .0) (omega (arith, g .there, c .before .before .before .before .before .before .before .before .before .before .pre))
 
--- src/check.rt:120:5
 loop-less-2 : tie.Need-loop-less-2 Inv-loop μ-loop
 loop-less-2 c =
     let g = step-means _ _ _ (sym (c .before .before .before .before .before .before .checked-at .ensures) ∙ c .before .before .before .before .size2 .given .1) in
     rw (c .past-sound .ensures) (omega (arith, g .there))
 
--- src/check.rt:120:5
 loop-again-2 : tie.Need-loop-again-2 Inv-loop μ-loop
 loop-again-2 c =
     let l = c .before .before .before .before .before .before .before .before .loop in

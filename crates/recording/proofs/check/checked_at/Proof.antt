@@ -10,79 +10,62 @@ use Rattle.recording.proofs.check.checked_at.Lts as lts
 use Rattle.demuxer.proofs.head.head_at.Reads as head-at-reads
 use Rattle.recording.proofs.check.whole_at.Reads as whole-at-reads
 
--- src/check.rt:65:11
 head-at-requires : tie.Need-head-at-requires
 head-at-requires c κs = search needs
 
--- src/check.rt:66:41
 enum-told : tie.Need-enum-told
 enum-told c = search needs
 
--- src/check.rt:68:16
 enum-told-2 : tie.Need-enum-told-2
 enum-told-2 c = search needs
 
--- src/check.rt:68:16
 sub-if1 : tie.Need-sub-if1
 sub-if1 c =
     let a = c .before .before .before .before .args in
     omega (arith, trailer-there (a .file .now) (a .at) (sym (c .before .before .head-at .ensures) ∙ c .enum-told2 .given .1))
 
--- src/check.rt:74:43
 enum-told-3 : tie.Need-enum-told-3
 enum-told-3 c = search needs
 
--- src/check.rt:75:21
 enum-known-size : tie.Need-enum-known-size
 enum-known-size c = search needs
 
--- src/check.rt:76:16
 whole-at-requires : tie.Need-whole-at-requires
 whole-at-requires c κs = let a = c .before .before .before .before .before .args in video-there (a .file .now) (a .at) _ (sym (c .before .before .before .head-at .ensures) ∙ c .before .size .given .1)
 
--- src/check.rt:82:21
 enum-known-size-2 : tie.Need-enum-known-size-2
 enum-known-size-2 c = search needs
 
--- src/check.rt:83:16
 whole-at-requires-2 : tie.Need-whole-at-requires-2
 whole-at-requires-2 c κs = let a = c .before .before .before .before .before .args in audio-there (a .file .now) (a .at) _ (sym (c .before .before .before .head-at .ensures) ∙ c .before .size2 .given .1)
 
--- src/check.rt:61:1
 returns : tie.Need-returns
 returns c = let a = c .before .before .before .before .args in sym (checked-head (a .file .now) (a .at) _ (sym (c .before .before .head-at .ensures) ∙ c .enum-told .given .1))
 
--- src/check.rt:61:1
 returns-2 : tie.Need-returns-2
 returns-2 c = let a = c .before .before .before .before .before .args in sym (checked-last (a .file .now) (a .at) (sym (c .before .before .before .head-at .ensures) ∙ c .before .enum-told2 .given .1) (c .if1 .taken))
 
--- src/check.rt:61:1
 returns-3 : tie.Need-returns-3
 returns-3 c = let a = c .before .before .before .before .before .args in sym (checked-after (a .file .now) (a .at) (sym (c .before .before .before .head-at .ensures) ∙ c .before .enum-told2 .given .1) (c .if1 .left))
 
--- src/check.rt:61:1
 returns-4 : tie.Need-returns-4
 returns-4 c = let a = c .before .before .before .before .args in sym (checked-head (a .file .now) (a .at) _ (sym (c .before .before .head-at .ensures) ∙ c .enum-told3 .given .1))
 
--- src/check.rt:61:1
 returns-5 : tie.Need-returns-5
 returns-5 c =
     let a = c .before .before .before .before .before .before .before .args in
     sym (checked-frame (a .file .now) (a .at) _ (sym (c .before .before .before .before .before .head-at .ensures) ∙ c .before .before .before .size .given .1) (sym (c .before .whole-at .ensures) ∙ c .if2 .taken))
 
--- src/check.rt:61:1
 returns-6 : tie.Need-returns-6
 returns-6 c =
     let a = c .before .before .before .before .before .before .before .args in
     sym (checked-cut-frame (a .file .now) (a .at) _ (sym (c .before .before .before .before .before .head-at .ensures) ∙ c .before .before .before .size .given .1) (sym (c .before .whole-at .ensures) ∙ c .if2 .left))
 
--- src/check.rt:61:1
 returns-7 : tie.Need-returns-7
 returns-7 c =
     let a = c .before .before .before .before .before .before .before .args in
     sym (checked-sound (a .file .now) (a .at) _ (sym (c .before .before .before .before .before .head-at .ensures) ∙ c .before .before .before .size2 .given .1) (sym (c .before .whole-at2 .ensures) ∙ c .if3 .taken))
 
--- src/check.rt:61:1
 returns-8 : tie.Need-returns-8
 returns-8 c =
     let a = c .before .before .before .before .before .before .before .args in

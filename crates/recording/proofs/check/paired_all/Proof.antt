@@ -4,11 +4,9 @@ use Rattle.recording.proofs.check.paired_all.Tie as tie
 use Rattle.recording.proofs.check.paired_all.Reads as reads
 use Rattle.recording.proofs.check.paired_all.Lts as lts
 
--- src/check.rt:109:9
 returns : tie.Need-returns
 returns c = rw (not-true (c .before .args .paired) (c .if1 .taken))
 
--- src/check.rt:105:1
 returns-2 : tie.Need-returns-2
 returns-2 c = rw (not-false (c .before .args .paired) (c .if1 .left))
 

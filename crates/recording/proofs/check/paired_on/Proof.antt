@@ -8,27 +8,21 @@ use Rattle.recording.proofs.check.paired_on.Reads as reads
 use Rattle.recording.proofs.check.paired_on.Lts as lts
 use Rattle.chunk.proofs.interleave.interleave_at.Reads as interleave-at-reads
 
--- src/check.rt:97:9
 returns : tie.Need-returns
 returns c = rw (not-true (c .before .args .paired) (c .if1 .taken))
 
--- src/check.rt:99:11
 interleave-at-requires : tie.Need-interleave-at-requires
 interleave-at-requires c κs = search needs
 
--- src/check.rt:100:26
 enum-told : tie.Need-enum-told
 enum-told c = search needs
 
--- src/check.rt:101:30
 enum-told-2 : tie.Need-enum-told-2
 enum-told-2 c = search needs
 
--- src/check.rt:93:1
 returns-2 : tie.Need-returns-2
 returns-2 c = rw (not-false (c .before .before .before .before .args .paired) (c .before .before .before .if1 .left), sym (c .before .before .interleave-at .ensures) ∙ ap said (c .enum-told .given .1))
 
--- src/check.rt:93:1
 returns-3 : tie.Need-returns-3
 returns-3 c = rw (not-false (c .before .before .before .before .args .paired) (c .before .before .before .if1 .left), sym (c .before .before .interleave-at .ensures) ∙ ap said (c .enum-told2 .given .1))
 

@@ -7,27 +7,21 @@ use Rattle.recording.proofs.check.whole_at.Reads as reads
 use Rattle.recording.proofs.check.whole_at.Lts as lts
 use Rattle.demuxer.proofs.head.body_at.Reads as body-at-reads
 
--- src/check.rt:55:25
 add-body-at : tie.Need-add-body-at
 add-body-at c = search needs
 
--- src/check.rt:55:11
 body-at-requires : tie.Need-body-at-requires
 body-at-requires c κs = search needs
 
--- src/check.rt:56:30
 enum-told : tie.Need-enum-told
 enum-told c = search needs
 
--- src/check.rt:57:24
 enum-told-2 : tie.Need-enum-told-2
 enum-told-2 c = search needs
 
--- src/check.rt:51:1
 returns : tie.Need-returns
 returns c = let a = c .before .before .before .before .args in sym (whole-yes (a .file .now) (a .at) (a .size) _ _ (sym (c .before .before .body-at .ensures) ∙ c .enum-told .given .1))
 
--- src/check.rt:51:1
 returns-2 : tie.Need-returns-2
 returns-2 c = let a = c .before .before .before .before .args in sym (whole-no (a .file .now) (a .at) (a .size) (sym (c .before .before .body-at .ensures) ∙ c .enum-told2 .given .1))
 

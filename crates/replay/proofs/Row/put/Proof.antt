@@ -7,79 +7,60 @@ use Rattle.replay.proofs.Row.put.Tie as tie
 use Rattle.replay.proofs.Row.put.Reads as reads
 use Rattle.replay.proofs.Row.put.Lts as lts
 
--- src/lib.rt:40:9
 mul-rows : tie.Need-mul-rows
 mul-rows c = search needs
 
--- src/lib.rt:40:9
 slice-write-rows : tie.Need-slice-write-rows
 slice-write-rows c = search needs
 
--- src/lib.rt:41:14
 add-rows : tie.Need-add-rows
 add-rows c = search needs
 
--- src/lib.rt:41:9
 mul-rows-2 : tie.Need-mul-rows-2
 mul-rows-2 c = search needs
 
--- src/lib.rt:41:9
 slice-write-rows-2 : tie.Need-slice-write-rows-2
 slice-write-rows-2 c = simp length-set (omega arith)
 
--- src/lib.rt:42:14
 add-rows-2 : tie.Need-add-rows-2
 add-rows-2 c = search needs
 
--- src/lib.rt:42:9
 mul-rows-3 : tie.Need-mul-rows-3
 mul-rows-3 c = search needs
 
--- src/lib.rt:42:9
 slice-write-rows-3 : tie.Need-slice-write-rows-3
 slice-write-rows-3 c = simp length-set (omega arith)
 
--- src/lib.rt:43:14
 add-rows-3 : tie.Need-add-rows-3
 add-rows-3 c = search needs
 
--- src/lib.rt:43:9
 mul-rows-4 : tie.Need-mul-rows-4
 mul-rows-4 c = search needs
 
--- src/lib.rt:43:9
 slice-write-rows-4 : tie.Need-slice-write-rows-4
 slice-write-rows-4 c = simp length-set (omega arith)
 
--- src/lib.rt:44:14
 add-rows-4 : tie.Need-add-rows-4
 add-rows-4 c = search needs
 
--- src/lib.rt:44:9
 mul-rows-5 : tie.Need-mul-rows-5
 mul-rows-5 c = search needs
 
--- src/lib.rt:44:9
 slice-write-rows-5 : tie.Need-slice-write-rows-5
 slice-write-rows-5 c = simp length-set (omega arith)
 
--- src/lib.rt:45:14
 add-rows-5 : tie.Need-add-rows-5
 add-rows-5 c = search needs
 
--- src/lib.rt:45:9
 mul-rows-6 : tie.Need-mul-rows-6
 mul-rows-6 c = search needs
 
--- src/lib.rt:45:9
 slice-write-rows-6 : tie.Need-slice-write-rows-6
 slice-write-rows-6 c = simp length-set (omega arith)
 
--- src/lib.rt:36:5
 same-length : tie.Need-same-length
 same-length c = search needs
 
--- src/lib.rt:36:5
 returns : tie.Need-returns
 returns c = row-put (c .args .rows .now) (c .args .at) (c .args .self) (omega arith)
 

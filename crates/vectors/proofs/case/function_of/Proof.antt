@@ -5,11 +5,9 @@ use Rattle.vectors.proofs.case.function_of.Tie as tie
 use Rattle.vectors.proofs.case.function_of.Reads as reads
 use Rattle.vectors.proofs.case.function_of.Lts as lts
 
--- src/case.rt:35:1
 returns : tie.Need-returns
 returns c = (rw (lt-ltb _ _ (c .if1 .taken)), c .if1 .taken)
 
--- src/case.rt:35:1
 returns-2 : tie.Need-returns-2
 returns-2 c = (rw (le-ltb _ _ (c .if1 .left)), omega arith)
 

@@ -9,27 +9,21 @@ use Rattle.vectors.proofs.print.print_number.Lts as lts
 use Rattle.io.proofs.write_all.Reads as write-all-reads
 use Rattle.lines.proofs.put_number.Reads as put-number-reads
 
--- src/print.rt:6:35
 slice-aggregate-put-number : tie.Need-slice-aggregate-put-number
 slice-aggregate-put-number c = search needs
 
--- src/print.rt:6:9
 put-number-requires : tie.Need-put-number-requires
 put-number-requires c κs = search needs
 
--- src/print.rt:7:34
 array-share-prefix-text : tie.Need-array-share-prefix-text
 array-share-prefix-text c = search needs
 
--- src/print.rt:7:34
 slice-aggregate-write-all : tie.Need-slice-aggregate-write-all
 slice-aggregate-write-all c = sym (length-take-le _ _ (omega arith))
 
--- src/print.rt:7:5
 write-all-requires : tie.Need-write-all-requires
 write-all-requires c κs = search needs
 
--- src/print.rt:4:1
 returns : tie.Need-returns
 returns c = search needs
 

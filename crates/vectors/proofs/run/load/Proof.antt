@@ -10,23 +10,18 @@ use Rattle.vectors.proofs.run.load.Lts as lts
 use Rattle.fields.proofs.copy_in.Reads as copy-in-reads
 use Rattle.vectors.proofs.run.least.Reads as least-reads
 
--- src/run.rt:28:9
 least-requires : tie.Need-least-requires
 least-requires c κs = search needs
 
--- src/run.rt:29:28
 slice-aggregate-copy-in : tie.Need-slice-aggregate-copy-in
 slice-aggregate-copy-in c = sym (length-take-le _ _ (omega arith))
 
--- src/run.rt:29:5
 copy-in-requires : tie.Need-copy-in-requires
 copy-in-requires c κs = simp length-take (omega arith)
 
--- src/run.rt:24:1
 same-length : tie.Need-same-length
 same-length c = search needs
 
--- src/run.rt:24:1
 returns : tie.Need-returns
 returns c = search needs
 

@@ -19,11 +19,9 @@ Inv-loop to₀ bytes count i₀ to i = Loading to₀ bytes count to i
 abbrev μ-loop : tie.MeasureT-loop
 μ-loop to₀ bytes count i₀ to i = count - i
 
--- src/run.rt:100:9
 least-requires : tie.Need-least-requires Inv-loop μ-loop
 least-requires c κs = search needs
 
--- src/run.rt:102:5
 loop-holds : tie.Need-loop-holds Inv-loop μ-loop
 loop-holds c =
     let a = c .before .before .before .args in
@@ -35,31 +33,24 @@ loop-holds c =
       tags = tags-first (a .to .now) (a .bytes .now);
     }
 
--- src/run.rt:103:44
 mul-read-u32-le : tie.Need-mul-read-u32-le Inv-loop μ-loop
 mul-read-u32-le c = search needs
 
--- src/run.rt:103:17
 read-u32-le-requires : tie.Need-read-u32-le-requires Inv-loop μ-loop
 read-u32-le-requires c κs = search needs
 
--- src/run.rt:103:9
 mul-to : tie.Need-mul-to Inv-loop μ-loop
 mul-to c = search needs
 
--- src/run.rt:103:9
 slice-write-to : tie.Need-slice-write-to Inv-loop μ-loop
 slice-write-to c = search needs
 
--- src/run.rt:104:9
 add-i : tie.Need-add-i Inv-loop μ-loop
 add-i c = search needs
 
--- src/run.rt:102:5
 loop-less : tie.Need-loop-less Inv-loop μ-loop
 loop-less c = search needs
 
--- src/run.rt:102:5
 loop-again : tie.Need-loop-again Inv-loop μ-loop
 loop-again c =
     let a = c .before .before .before .before .before .before .args in
@@ -72,11 +63,9 @@ loop-again c =
       tags = tags-more (a .to .now) (a .bytes .now) (l .i) _ (l .inv .tags) (omega (arith, l .inv .room)) (c .read-u32-le .ensures);
     }
 
--- src/run.rt:96:1
 same-length : tie.Need-same-length Inv-loop μ-loop
 same-length c = c .before .loop .inv .same
 
--- src/run.rt:96:1
 returns : tie.Need-returns Inv-loop μ-loop
 returns c =
     let a = c .before .before .before .before .before .args in

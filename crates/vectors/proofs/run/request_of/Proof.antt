@@ -9,19 +9,15 @@ use Rattle.vectors.proofs.run.request_of.Tie as tie
 use Rattle.vectors.proofs.run.request_of.Reads as reads
 use Rattle.vectors.proofs.run.request_of.Lts as lts
 
--- src/run.rt:43:9
 returns : tie.Need-returns
 returns c = rw (eq-eqb _ _ (c .if1 .taken))
 
--- src/run.rt:46:9
 returns-2 : tie.Need-returns-2
 returns-2 c = rw (ne-eqb _ _ (c .before .if1 .left), eq-eqb _ _ (c .if2 .taken))
 
--- src/run.rt:48:5
 cast-result : tie.Need-cast-result
 cast-result c = search needs
 
--- src/run.rt:39:1
 returns-3 : tie.Need-returns-3
 returns-3 c =
     rw (ne-eqb _ _ (c .before .if1 .left), ne-eqb _ _ (c .if2 .left)) (toZ-pos w64 (c .before .before .args .request % 9223372036854775808) (omega arith))

@@ -10,43 +10,33 @@ use Rattle.vectors.proofs.run.load.Reads as load-reads
 use Rattle.vectors.proofs.run.run_reading.Reads as run-reading-reads
 use Rattle.vectors.proofs.run.run_writing.Reads as run-writing-reads
 
--- src/run.rt:215:9
 run-reading-requires : tie.Need-run-reading-requires
 run-reading-requires c κs = search needs
 
--- src/run.rt:216:9
 returns : tie.Need-returns
 returns c = search needs
 
--- src/run.rt:219:9
 run-reading-requires-2 : tie.Need-run-reading-requires-2
 run-reading-requires-2 c κs = search needs
 
--- src/run.rt:220:9
 returns-2 : tie.Need-returns-2
 returns-2 c = search needs
 
--- src/run.rt:223:20
 slice-aggregate-load : tie.Need-slice-aggregate-load
 slice-aggregate-load c = search needs
 
--- src/run.rt:223:9
 load-requires : tie.Need-load-requires
 load-requires c κs = search needs
 
--- src/run.rt:224:34
 array-borrow-prefix-bytes : tie.Need-array-borrow-prefix-bytes
 array-borrow-prefix-bytes c = search needs
 
--- src/run.rt:224:34
 slice-aggregate-run-writing : tie.Need-slice-aggregate-run-writing
 slice-aggregate-run-writing c = sym (length-take-le _ _ (omega arith))
 
--- src/run.rt:224:5
 run-writing-requires : tie.Need-run-writing-requires
 run-writing-requires c κs = search needs
 
--- src/run.rt:213:1
 returns-3 : tie.Need-returns-3
 returns-3 c = search needs
 

@@ -12,44 +12,34 @@ use Rattle.vectors.proofs.print.print_call.Reads as print-call-reads
 use Rattle.vectors.proofs.print.print_end.Reads as print-end-reads
 use Rattle.vectors.proofs.run.load_tags.Reads as load-tags-reads
 
--- src/run.rt:111:27
 slice-aggregate-load-tags : tie.Need-slice-aggregate-load-tags
 slice-aggregate-load-tags c = search needs
 
--- src/run.rt:111:9
 load-tags-requires : tie.Need-load-tags-requires
 load-tags-requires c κs = search needs
 
--- src/run.rt:113:53
 array-share-prefix-words : tie.Need-array-share-prefix-words
 array-share-prefix-words c = search needs
 
--- src/run.rt:113:53
 slice-aggregate-amv-validate-movi-interleave :
     tie.Need-slice-aggregate-amv-validate-movi-interleave
 slice-aggregate-amv-validate-movi-interleave c = sym (length-take-le _ _ (omega arith))
 
--- src/run.rt:113:9
 amv-validate-movi-interleave-requires : tie.Need-amv-validate-movi-interleave-requires
 amv-validate-movi-interleave-requires c κs = search needs
 
--- src/run.rt:114:16
 slice-aggregate-print-call : tie.Need-slice-aggregate-print-call
 slice-aggregate-print-call c = search needs
 
--- src/run.rt:114:5
 print-call-requires : tie.Need-print-call-requires
 print-call-requires c κs = search needs
 
--- src/run.rt:115:5
 print-1-requires : tie.Need-print-1-requires
 print-1-requires c κs = search needs
 
--- src/run.rt:116:5
 print-end-requires : tie.Need-print-end-requires
 print-end-requires c κs = search needs
 
--- src/run.rt:109:1
 returns : tie.Need-returns
 returns c = search needs
 

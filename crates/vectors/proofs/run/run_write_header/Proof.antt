@@ -13,43 +13,33 @@ use Rattle.vectors.proofs.print.print_call.Reads as print-call-reads
 use Rattle.vectors.proofs.print.print_end.Reads as print-end-reads
 use Rattle.vectors.proofs.run.writer_of.Reads as writer-of-reads
 
--- src/run.rt:160:22
 writer-of-requires : tie.Need-writer-of-requires
 writer-of-requires c κs = search needs
 
--- src/run.rt:162:9
 amv-write-header-requires : tie.Need-amv-write-header-requires
 amv-write-header-requires c κs = search needs
 
--- src/run.rt:163:16
 slice-aggregate-print-call : tie.Need-slice-aggregate-print-call
 slice-aggregate-print-call c = search needs
 
--- src/run.rt:163:5
 print-call-requires : tie.Need-print-call-requires
 print-call-requires c κs = search needs
 
--- src/run.rt:164:5
 print-1-requires : tie.Need-print-1-requires
 print-1-requires c κs = search needs
 
--- src/run.rt:165:5
 print-9-requires : tie.Need-print-9-requires
 print-9-requires c κs = search needs
 
--- src/run.rt:166:5
 print-bytes-requires : tie.Need-print-bytes-requires
 print-bytes-requires c κs = search needs
 
--- src/run.rt:167:5
 print-end-requires : tie.Need-print-end-requires
 print-end-requires c κs = search needs
 
--- src/run.rt:157:1
 same-length : tie.Need-same-length
 same-length c = search needs
 
--- src/run.rt:157:1
 returns : tie.Need-returns
 returns c =
     let m = c .before .before .before .before .before .before .before .before .before in

@@ -14,51 +14,39 @@ use Rattle.vectors.proofs.print.print_call.Reads as print-call-reads
 use Rattle.vectors.proofs.print.print_end.Reads as print-end-reads
 use Rattle.vectors.proofs.run.writer_of.Reads as writer-of-reads
 
--- src/run.rt:173:22
 writer-of-requires : tie.Need-writer-of-requires
 writer-of-requires c κs = search needs
 
--- src/run.rt:175:19
 array-read-stream : tie.Need-array-read-stream
 array-read-stream c = search needs
 
--- src/run.rt:175:18
 cast-stream : tie.Need-cast-stream
 cast-stream c = search needs
 
--- src/run.rt:176:9
 amv-write-packet-requires : tie.Need-amv-write-packet-requires
 amv-write-packet-requires c κs = search needs
 
--- src/run.rt:177:16
 slice-aggregate-print-call : tie.Need-slice-aggregate-print-call
 slice-aggregate-print-call c = search needs
 
--- src/run.rt:177:5
 print-call-requires : tie.Need-print-call-requires
 print-call-requires c κs = search needs
 
--- src/run.rt:178:5
 print-1-requires : tie.Need-print-1-requires
 print-1-requires c κs = search needs
 
--- src/run.rt:179:5
 print-9-requires : tie.Need-print-9-requires
 print-9-requires c κs = search needs
 
--- src/run.rt:180:5
 print-bytes-requires : tie.Need-print-bytes-requires
 print-bytes-requires c κs = search needs
 
--- src/run.rt:181:5
 print-end-requires : tie.Need-print-end-requires
 print-end-requires c κs = search needs
 
--- src/run.rt:170:1
 same-length : tie.Need-same-length
 same-length c = search needs
 
--- src/run.rt:170:1
 returns : tie.Need-returns
 returns c =
     let m = c .before .before .before .before .before .before .before .before .before in

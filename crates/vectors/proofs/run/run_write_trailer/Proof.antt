@@ -13,43 +13,33 @@ use Rattle.vectors.proofs.print.print_call.Reads as print-call-reads
 use Rattle.vectors.proofs.print.print_end.Reads as print-end-reads
 use Rattle.vectors.proofs.run.writer_of.Reads as writer-of-reads
 
--- src/run.rt:187:22
 writer-of-requires : tie.Need-writer-of-requires
 writer-of-requires c κs = search needs
 
--- src/run.rt:189:9
 amv-write-trailer-requires : tie.Need-amv-write-trailer-requires
 amv-write-trailer-requires c κs = search needs
 
--- src/run.rt:190:16
 slice-aggregate-print-call : tie.Need-slice-aggregate-print-call
 slice-aggregate-print-call c = search needs
 
--- src/run.rt:190:5
 print-call-requires : tie.Need-print-call-requires
 print-call-requires c κs = search needs
 
--- src/run.rt:191:5
 print-1-requires : tie.Need-print-1-requires
 print-1-requires c κs = search needs
 
--- src/run.rt:192:5
 print-9-requires : tie.Need-print-9-requires
 print-9-requires c κs = search needs
 
--- src/run.rt:193:5
 print-bytes-requires : tie.Need-print-bytes-requires
 print-bytes-requires c κs = search needs
 
--- src/run.rt:194:5
 print-end-requires : tie.Need-print-end-requires
 print-end-requires c κs = search needs
 
--- src/run.rt:184:1
 same-length : tie.Need-same-length
 same-length c = search needs
 
--- src/run.rt:184:1
 returns : tie.Need-returns
 returns c =
     let m = c .before .before .before .before .before .before .before .before .before in

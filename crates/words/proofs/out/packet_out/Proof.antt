@@ -5,15 +5,12 @@ use Rattle.words.proofs.out.packet_out.Reads as reads
 use Rattle.words.proofs.out.packet_out.Lts as lts
 use Rattle.words.proofs.out.duration_word.Reads as duration-word-reads
 
--- src/out.rt:47:9
 cast-t3 : tie.Need-cast-t3
 cast-t3 c = search needs
 
--- src/out.rt:51:9
 duration-word-requires : tie.Need-duration-word-requires
 duration-word-requires c κs = search needs
 
--- src/out.rt:40:1
 returns : tie.Need-returns
 returns c = cc
 

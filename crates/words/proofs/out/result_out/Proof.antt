@@ -10,27 +10,21 @@ use Rattle.words.proofs.out.result_out.Lts as lts
 use Rattle.error.proofs.AmvError.number.Reads as number-reads
 use Rattle.error.proofs.AmvError.place.Reads as place-reads
 
--- src/out.rt:21:13
 enum-told : tie.Need-enum-told
 enum-told c = search needs
 
--- src/out.rt:24:24
 enum-known-result : tie.Need-enum-known-result
 enum-known-result c = search needs
 
--- src/out.rt:25:21
 place-requires : tie.Need-place-requires
 place-requires c κs = search needs
 
--- src/out.rt:26:13
 number-requires : tie.Need-number-requires
 number-requires c κs = search needs
 
--- src/out.rt:16:1
 returns : tie.Need-returns
 returns c = says-accepted 1 (ap (λ r. checked (said r)) (c .before .enum-told .given .1)) refl
 
--- src/out.rt:16:1
 returns-2 : tie.Need-returns-2
 returns-2 c = says-error 1 (c .before .before .before .before .result .given .0 .0) (ap (λ r. checked (said r)) (c .before .before .before .before .result .given .1)) (c .number .ensures) (c .before .before .place .ensures)
 

@@ -4,11 +4,9 @@ use Rattle.words.proofs.walker.trailer_of.Tie as tie
 use Rattle.words.proofs.walker.trailer_of.Reads as reads
 use Rattle.words.proofs.walker.trailer_of.Lts as lts
 
--- src/walker.rt:24:9
 returns : tie.Need-returns
 returns c = rw (eq-eqb _ _ (c .if1 .taken))
 
--- src/walker.rt:20:1
 returns-2 : tie.Need-returns-2
 returns-2 c = rw (ne-eqb _ _ (c .if1 .left))
 

@@ -7,57 +7,44 @@ use Rattle.words.proofs.walker.walker_of.Reads as reads
 use Rattle.words.proofs.walker.walker_of.Lts as lts
 use Rattle.words.proofs.walker.trailer_of.Reads as trailer-of-reads
 
--- src/walker.rt:47:12
 array-read-if1 : tie.Need-array-read-if1
 array-read-if1 c = search needs
 
--- src/walker.rt:48:9
 returns : tie.Need-returns
 unfolding walkerLegal
 returns c = search (needs, lt-leb)
 
--- src/walker.rt:50:12
 array-read-if2 : tie.Need-array-read-if2
 array-read-if2 c = search needs
 
--- src/walker.rt:51:9
 returns-2 : tie.Need-returns-2
 unfolding walkerLegal
 returns-2 c = search (needs, le-leb, lt-leb)
 
--- src/walker.rt:54:17
 array-read-t7 : tie.Need-array-read-t7
 array-read-t7 c = search needs
 
--- src/walker.rt:55:28
 array-read-trailer-of : tie.Need-array-read-trailer-of
 array-read-trailer-of c = search needs
 
--- src/walker.rt:56:30
 array-read-t19 : tie.Need-array-read-t19
 array-read-t19 c = search needs
 
--- src/walker.rt:57:28
 array-read-t23 : tie.Need-array-read-t23
 array-read-t23 c = search needs
 
--- src/walker.rt:61:14
 array-read-t7-2 : tie.Need-array-read-t7-2
 array-read-t7-2 c = search needs
 
--- src/walker.rt:62:14
 array-read-t23-2 : tie.Need-array-read-t23-2
 array-read-t23-2 c = search needs
 
--- src/walker.rt:63:29
 array-read-trailer-of-2 : tie.Need-array-read-trailer-of-2
 array-read-trailer-of-2 c = search needs
 
--- src/walker.rt:63:18
 trailer-of-requires : tie.Need-trailer-of-requires
 trailer-of-requires c κs = search needs
 
--- src/walker.rt:44:1
 returns-3 : tie.Need-returns-3
 unfolding walkerLegal
 returns-3 c = rw (le-leb _ _ (c .before .before .if1 .left), le-leb _ _ (c .before .if2 .left), c .trailer-of .ensures)

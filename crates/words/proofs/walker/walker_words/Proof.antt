@@ -7,19 +7,15 @@ use Rattle.words.proofs.walker.walker_words.Lts as lts
 use Rattle.words.proofs.walker.mark_word.Reads as mark-word-reads
 use Rattle.words.proofs.walker.trailer_word.Reads as trailer-word-reads
 
--- src/walker.rt:78:9
 mark-word-requires : tie.Need-mark-word-requires
 mark-word-requires c κs = search needs
 
--- src/walker.rt:79:9
 mark-word-requires-2 : tie.Need-mark-word-requires-2
 mark-word-requires-2 c κs = search needs
 
--- src/walker.rt:80:9
 trailer-word-requires : tie.Need-trailer-word-requires
 trailer-word-requires c κs = search needs
 
--- src/walker.rt:68:1
 returns : tie.Need-returns
 returns c = let p = c .before .before .before .before .args .walker .position in
     λ i. p .cursor ∷ p .frames .0 ∷ p .samples .0 ∷ p .blocks .0 ∷ c .before .before .mark-word .ensures i ∷ c .before .mark-word2 .ensures i ∷ c .trailer-word .ensures i ∷ []

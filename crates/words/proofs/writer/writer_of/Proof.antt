@@ -6,126 +6,97 @@ use Rattle.words.proofs.writer.writer_of.Tie as tie
 use Rattle.words.proofs.writer.writer_of.Reads as reads
 use Rattle.words.proofs.writer.writer_of.Lts as lts
 
--- src/writer.rt:17:21
 array-read-if1 : tie.Need-array-read-if1
 array-read-if1 c = search needs
 
--- src/writer.rt:18:9
 returns : tie.Need-returns
 unfolding settingsLegal writerLegal
 returns c = search (needs, lt-leb)
 
--- src/writer.rt:20:21
 array-read-if2 : tie.Need-array-read-if2
 array-read-if2 c = search needs
 
--- src/writer.rt:21:9
 returns-2 : tie.Need-returns-2
 unfolding settingsLegal writerLegal
 returns-2 c = search (needs, le-leb, lt-leb)
 
--- src/writer.rt:23:21
 array-read-if3 : tie.Need-array-read-if3
 array-read-if3 c = search needs
 
--- src/writer.rt:24:9
 returns-3 : tie.Need-returns-3
 unfolding settingsLegal writerLegal
 returns-3 c = search (needs, le-leb, lt-leb)
 
--- src/writer.rt:26:21
 array-read-if4 : tie.Need-array-read-if4
 array-read-if4 c = search needs
 
--- src/writer.rt:27:9
 returns-4 : tie.Need-returns-4
 unfolding settingsLegal writerLegal
 returns-4 c = search (needs, le-leb, lt-leb)
 
--- src/writer.rt:29:16
 array-read-if5 : tie.Need-array-read-if5
 array-read-if5 c = search needs
 
--- src/writer.rt:30:9
 returns-5 : tie.Need-returns-5
 unfolding settingsLegal writerLegal
 returns-5 c = search (needs, le-leb, lt-leb)
 
--- src/writer.rt:32:12
 array-read-if6 : tie.Need-array-read-if6
 array-read-if6 c = search needs
 
--- src/writer.rt:33:9
 returns-6 : tie.Need-returns-6
 unfolding settingsLegal writerLegal
 returns-6 c = search (needs, le-leb, lt-leb)
 
--- src/writer.rt:35:12
 array-read-if7 : tie.Need-array-read-if7
 array-read-if7 c = search needs
 
--- src/writer.rt:36:9
 returns-7 : tie.Need-returns-7
 unfolding settingsLegal writerLegal
 returns-7 c = search (needs, le-leb, lt-leb)
 
--- src/writer.rt:39:16
 array-read-t7 : tie.Need-array-read-t7
 array-read-t7 c = search needs
 
--- src/writer.rt:39:16
 cast-t23 : tie.Need-cast-t23
 cast-t23 c = search needs
 
--- src/writer.rt:40:17
 array-read-t26 : tie.Need-array-read-t26
 array-read-t26 c = search needs
 
--- src/writer.rt:40:17
 cast-t27 : tie.Need-cast-t27
 cast-t27 c = search needs
 
--- src/writer.rt:41:14
 array-read-t30 : tie.Need-array-read-t30
 array-read-t30 c = search needs
 
--- src/writer.rt:41:14
 cast-t31 : tie.Need-cast-t31
 cast-t31 c = search needs
 
--- src/writer.rt:42:15
 array-read-t34 : tie.Need-array-read-t34
 array-read-t34 c = search needs
 
--- src/writer.rt:42:15
 cast-t35 : tie.Need-cast-t35
 cast-t35 c = search needs
 
--- src/writer.rt:43:19
 array-read-t38 : tie.Need-array-read-t38
 array-read-t38 c = search needs
 
--- src/writer.rt:43:19
 cast-t39 : tie.Need-cast-t39
 cast-t39 c = search needs
 
--- src/writer.rt:47:16
 array-read-t7-2 : tie.Need-array-read-t7-2
 array-read-t7-2 c = search needs
 
--- src/writer.rt:48:16
 array-read-t38-2 : tie.Need-array-read-t38-2
 array-read-t38-2 c = search needs
 
--- src/writer.rt:49:18
 array-read-t26-2 : tie.Need-array-read-t26-2
 array-read-t26-2 c = search needs
 
--- src/writer.rt:50:17
 array-read-t34-2 : tie.Need-array-read-t34-2
 array-read-t34-2 c = search needs
 
--- src/writer.rt:14:1
 returns-8 : tie.Need-returns-8
 unfolding settingsLegal writerLegal
 returns-8 c = search (needs, le-leb)

@@ -5,35 +5,27 @@ use Rattle.words.proofs.writer.writer_words.Reads as reads
 use Rattle.words.proofs.writer.writer_words.Lts as lts
 use Rattle.words.proofs.walker.mark_word.Reads as mark-word-reads
 
--- src/writer.rt:67:9
 cast-t3 : tie.Need-cast-t3
 cast-t3 c = search needs
 
--- src/writer.rt:68:9
 cast-t4 : tie.Need-cast-t4
 cast-t4 c = search needs
 
--- src/writer.rt:69:9
 cast-t5 : tie.Need-cast-t5
 cast-t5 c = search needs
 
--- src/writer.rt:70:9
 cast-t6 : tie.Need-cast-t6
 cast-t6 c = search needs
 
--- src/writer.rt:71:9
 cast-t7 : tie.Need-cast-t7
 cast-t7 c = search needs
 
--- src/writer.rt:72:9
 mark-word-requires : tie.Need-mark-word-requires
 mark-word-requires c κs = search needs
 
--- src/writer.rt:73:9
 mark-word-requires-2 : tie.Need-mark-word-requires-2
 mark-word-requires-2 c κs = search needs
 
--- src/writer.rt:62:1
 returns : tie.Need-returns
 returns c = cc
 

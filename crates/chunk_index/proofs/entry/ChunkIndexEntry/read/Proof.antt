@@ -7,55 +7,42 @@ use Rattle.chunk_index.proofs.entry.ChunkIndexEntry.read.Lts as lts
 use Rattle.fields.proofs.read_u32_le.Reads as read-u32-le-reads
 use Rattle.fields.proofs.read_u64_le.Reads as read-u64-le-reads
 
--- src/entry.rt:26:13
 read-u32-le-requires : tie.Need-read-u32-le-requires
 read-u32-le-requires c κs = search needs
 
--- src/entry.rt:27:49
 add-read-u32-le : tie.Need-add-read-u32-le
 add-read-u32-le c = search needs
 
--- src/entry.rt:27:22
 read-u32-le-requires-2 : tie.Need-read-u32-le-requires-2
 read-u32-le-requires-2 c κs = search needs
 
--- src/entry.rt:27:22
 cast-cursor : tie.Need-cast-cursor
 cast-cursor c = search needs
 
--- src/entry.rt:28:49
 add-read-u32-le-2 : tie.Need-add-read-u32-le-2
 add-read-u32-le-2 c = search needs
 
--- src/entry.rt:28:22
 read-u32-le-requires-3 : tie.Need-read-u32-le-requires-3
 read-u32-le-requires-3 c κs = search needs
 
--- src/entry.rt:28:22
 cast-frames : tie.Need-cast-frames
 cast-frames c = search needs
 
--- src/entry.rt:29:49
 add-read-u32-le-3 : tie.Need-add-read-u32-le-3
 add-read-u32-le-3 c = search needs
 
--- src/entry.rt:29:22
 read-u32-le-requires-4 : tie.Need-read-u32-le-requires-4
 read-u32-le-requires-4 c κs = search needs
 
--- src/entry.rt:29:22
 cast-blocks : tie.Need-cast-blocks
 cast-blocks c = search needs
 
--- src/entry.rt:30:50
 add-read-u64-le : tie.Need-add-read-u64-le
 add-read-u64-le c = search needs
 
--- src/entry.rt:30:13
 read-u64-le-requires : tie.Need-read-u64-le-requires
 read-u64-le-requires c κs = search needs
 
--- src/entry.rt:22:5
 returns : tie.Need-returns
 unfolding entryAt
 returns c =

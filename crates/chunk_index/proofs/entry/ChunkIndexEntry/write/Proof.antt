@@ -11,59 +11,45 @@ use Rattle.chunk_index.proofs.entry.ChunkIndexEntry.write.Lts as lts
 use Rattle.fields.proofs.write_u32_le.Reads as write-u32-le-reads
 use Rattle.fields.proofs.write_u64_le.Reads as write-u64-le-reads
 
--- src/entry.rt:46:9
 write-u32-le-requires : tie.Need-write-u32-le-requires
 write-u32-le-requires c κs = search needs
 
--- src/entry.rt:47:37
 add-write-u32-le : tie.Need-add-write-u32-le
 add-write-u32-le c = search needs
 
--- src/entry.rt:47:45
 cast-write-u32-le : tie.Need-cast-write-u32-le
 cast-write-u32-le c = search needs
 
--- src/entry.rt:47:9
 write-u32-le-requires-2 : tie.Need-write-u32-le-requires-2
 write-u32-le-requires-2 c κs = search needs
 
--- src/entry.rt:48:37
 add-write-u32-le-2 : tie.Need-add-write-u32-le-2
 add-write-u32-le-2 c = search needs
 
--- src/entry.rt:48:45
 cast-write-u32-le-2 : tie.Need-cast-write-u32-le-2
 cast-write-u32-le-2 c = search needs
 
--- src/entry.rt:48:9
 write-u32-le-requires-3 : tie.Need-write-u32-le-requires-3
 write-u32-le-requires-3 c κs = search needs
 
--- src/entry.rt:49:37
 add-write-u32-le-3 : tie.Need-add-write-u32-le-3
 add-write-u32-le-3 c = search needs
 
--- src/entry.rt:49:46
 cast-write-u32-le-3 : tie.Need-cast-write-u32-le-3
 cast-write-u32-le-3 c = search needs
 
--- src/entry.rt:49:9
 write-u32-le-requires-4 : tie.Need-write-u32-le-requires-4
 write-u32-le-requires-4 c κs = search needs
 
--- src/entry.rt:50:37
 add-write-u64-le : tie.Need-add-write-u64-le
 add-write-u64-le c = search needs
 
--- src/entry.rt:50:9
 write-u64-le-requires : tie.Need-write-u64-le-requires
 write-u64-le-requires c κs = search needs
 
--- src/entry.rt:40:5
 same-length : tie.Need-same-length
 same-length c = search needs
 
--- src/entry.rt:40:5
 returns : tie.Need-returns
 returns c =
     let fifth = c .before .before in

@@ -5,27 +5,22 @@ use Rattle.demuxer.proofs.position.Position.in_range.Tie as tie
 use Rattle.demuxer.proofs.position.Position.in_range.Reads as reads
 use Rattle.demuxer.proofs.position.Position.in_range.Lts as lts
 
--- src/position.rt:41:13
 returns : tie.Need-returns
 unfolding inRange
 returns c = rw (lt-leb _ _ (c .if1 .taken))
 
--- src/position.rt:44:13
 returns-2 : tie.Need-returns-2
 unfolding inRange
 returns-2 c = rw (le-leb _ _ (c .before .before .if1 .left), lt-leb _ _ (c .if2 .taken))
 
--- src/position.rt:47:13
 returns-3 : tie.Need-returns-3
 unfolding inRange
 returns-3 c = rw (le-leb _ _ (c .before .before .before .before .if1 .left), le-leb _ _ (c .before .before .if2 .left), lt-leb _ _ (c .if3 .taken))
 
--- src/position.rt:50:13
 returns-4 : tie.Need-returns-4
 unfolding inRange
 returns-4 c = rw (le-leb _ _ (c .before .before .before .before .before .before .if1 .left), le-leb _ _ (c .before .before .before .before .if2 .left), le-leb _ _ (c .before .before .if3 .left), lt-leb _ _ (c .if4 .taken))
 
--- src/position.rt:37:5
 returns-5 : tie.Need-returns-5
 unfolding inRange
 returns-5 c = rw (le-leb _ _ (c .before .before .before .before .before .before .if1 .left), le-leb _ _ (c .before .before .before .before .if2 .left), le-leb _ _ (c .before .before .if3 .left), le-leb _ _ (c .if4 .left))

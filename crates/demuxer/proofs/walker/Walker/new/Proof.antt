@@ -7,11 +7,9 @@ use Rattle.demuxer.proofs.walker.Walker.new.Reads as reads
 use Rattle.demuxer.proofs.walker.Walker.new.Lts as lts
 use Rattle.demuxer.proofs.position.Position.new.Reads as new-reads
 
--- src/walker.rt:46:23
 new-requires : tie.Need-new-requires
 new-requires c κs = search needs
 
--- src/walker.rt:42:5
 returns : tie.Need-returns
 returns c = λ i. record { position = c .new .ensures i; end = false; cut = false; trailer = NotMet }
 

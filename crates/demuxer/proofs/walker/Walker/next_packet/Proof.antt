@@ -12,20 +12,16 @@ use Rattle.demuxer.proofs.position.Position.in_range.Reads as in-range-
 use Rattle.demuxer.proofs.walker.Walker.read_chunk.Reads as read-chunk-reads
 use Rattle.fields.proofs.file.within_limit.Reads as within-limit-reads
 
--- src/walker.rt:164:13
 within-limit-requires : tie.Need-within-limit-requires
 within-limit-requires c κs = search needs
 
--- src/walker.rt:165:13
 returns : tie.Need-returns
 unfolding readOf
 returns c = (rw (sym (c .before .within-limit .ensures) ∙ not-true _ (c .if1 .taken)), tt)
 
--- src/walker.rt:171:13
 in-range-requires : tie.Need-in-range-requires
 in-range-requires c κs = search needs
 
--- src/walker.rt:172:13
 returns-2 : tie.Need-returns-2
 unfolding readOf
 returns-2 c = (
@@ -36,7 +32,6 @@ returns-2 c = (
   tt,
 )
 
--- src/walker.rt:178:13
 returns-3 : tie.Need-returns-3
 unfolding readOf
 returns-3 c = (
@@ -48,11 +43,9 @@ returns-3 c = (
   tt,
 )
 
--- src/walker.rt:183:9
 read-chunk-requires : tie.Need-read-chunk-requires
 read-chunk-requires c κs = range-facts _ (sym (c .before .before .in-range .ensures) ∙ not-false _ (c .before .if2 .left))
 
--- src/walker.rt:161:5
 returns-4 : tie.Need-returns-4
 returns-4 c =
     let a = c .before .before .before .before .before .before .before .before .args in (

@@ -12,75 +12,60 @@ use Rattle.demuxer.proofs.walker.Walker.cut_off.Reads as cut-off-reads
 use Rattle.demuxer.proofs.walker.Walker.read_frame.Reads as read-frame-reads
 use Rattle.demuxer.proofs.walker.Walker.read_sound.Reads as read-sound-reads
 
--- src/walker.rt:143:15
 head-at-requires : tie.Need-head-at-requires
 head-at-requires c κs = search needs
 
--- src/walker.rt:145:25
 enum-told : tie.Need-enum-told
 enum-told c = search needs
 
--- src/walker.rt:146:25
 cut-off-requires : tie.Need-cut-off-requires
 cut-off-requires c κs = search needs
 
--- src/walker.rt:149:25
 enum-told-2 : tie.Need-enum-told-2
 enum-told-2 c = search needs
 
--- src/walker.rt:150:25
 at-trailer-requires : tie.Need-at-trailer-requires
 at-trailer-requires c κs = search needs
 
--- src/walker.rt:153:41
 enum-told-3 : tie.Need-enum-told-3
 enum-told-3 c = search needs
 
--- src/walker.rt:156:25
 enum-known-size : tie.Need-enum-known-size
 enum-known-size c = search needs
 
--- src/walker.rt:156:34
 read-frame-requires : tie.Need-read-frame-requires
 read-frame-requires c κs = search needs
 
--- src/walker.rt:157:25
 enum-known-size-2 : tie.Need-enum-known-size-2
 enum-known-size-2 c = search needs
 
--- src/walker.rt:157:34
 read-sound-requires : tie.Need-read-sound-requires
 read-sound-requires c κs = search needs
 
--- src/walker.rt:138:5
 returns : tie.Need-returns
 unfolding readChunk
 returns c = let a = c .before .before .before .before .before .args in
     let head = sym (c .before .before .before .head-at .ensures) ∙ c .before .enum-told .given .1 in
     ((λ i. record { answer = End; walker = c .cut-off .ensures i }) ∙ sym (ap (readHead (a .file .now) (a .self)) head), tt)
 
--- src/walker.rt:138:5
 returns-2 : tie.Need-returns-2
 unfolding readChunk
 returns-2 c = let a = c .before .before .before .before .before .args in
     let head = sym (c .before .before .before .head-at .ensures) ∙ c .before .enum-told2 .given .1 in
     ((λ i. record { answer = End; walker = c .at-trailer .ensures i }) ∙ sym (ap (readHead (a .file .now) (a .self)) head), tt)
 
--- src/walker.rt:138:5
 returns-3 : tie.Need-returns-3
 unfolding readChunk
 returns-3 c = let a = c .before .before .before .before .args in
     let head = sym (c .before .before .head-at .ensures) ∙ c .enum-told3 .given .1 in
     (sym (ap (readHead (a .file .now) (a .self)) head), tt)
 
--- src/walker.rt:138:5
 returns-4 : tie.Need-returns-4
 unfolding readChunk
 returns-4 c = let a = c .before .before .before .before .before .before .args in
     let head = sym (c .before .before .before .before .head-at .ensures) ∙ c .before .before .size .given .1 in
     (c .read-frame .ensures .0 ∙ sym (ap (readHead (a .file .now) (a .self)) head), c .read-frame .ensures .1)
 
--- src/walker.rt:138:5
 returns-5 : tie.Need-returns-5
 unfolding readChunk
 returns-5 c = let a = c .before .before .before .before .before .before .args in

@@ -14,50 +14,39 @@ use Rattle.demuxer.proofs.position.Position.past_sound.Reads as past-so
 use Rattle.demuxer.proofs.walker.Walker.advanced.Reads as advanced-reads
 use Rattle.demuxer.proofs.walker.Walker.cut_off.Reads as cut-off-reads
 
--- src/walker.rt:117:53
 add-body-at : tie.Need-add-body-at
 add-body-at c = search needs
 
--- src/walker.rt:117:39
 body-at-requires : tie.Need-body-at-requires
 body-at-requires c κs = search needs
 
--- src/walker.rt:117:25
 enum-known-start : tie.Need-enum-known-start
 enum-known-start c = search needs
 
--- src/walker.rt:119:25
 enum-told : tie.Need-enum-told
 enum-told c = search needs
 
--- src/walker.rt:120:25
 cut-off-requires : tie.Need-cut-off-requires
 cut-off-requires c κs = search needs
 
--- src/walker.rt:118:13
 returns : tie.Need-returns
 returns c =
     let a = c .before .before .before .before .before .before .args in
     let short = sym (c .before .before .before .body-at .ensures) ∙ c .before .enum-told .given .1 in
     ((λ i. record { answer = End; walker = c .cut-off .ensures i }) ∙ sym (sound-short (a .file .now) (a .self) (a .size) short), tt)
 
--- src/walker.rt:123:13
 sample-count-requires : tie.Need-sample-count-requires
 sample-count-requires c κs = search needs
 
--- src/walker.rt:129:23
 shown-requires : tie.Need-shown-requires
 shown-requires c κs = search needs
 
--- src/walker.rt:133:35
 past-sound-requires : tie.Need-past-sound-requires
 past-sound-requires c κs = search needs
 
--- src/walker.rt:133:21
 advanced-requires : tie.Need-advanced-requires
 advanced-requires c κs = search needs
 
--- src/walker.rt:111:5
 returns-2 : tie.Need-returns-2
 returns-2 c =
     let a = c .before .before .before .before .before .before .before .before .before .before .args in

@@ -13,27 +13,21 @@ use Rattle.parse.proofs.header.AmvHeader.duration_micros.Lts as lts
 use Rattle.duration.proofs.AmvDuration.total_seconds.Reads as total-seconds-reads
 use Rattle.parse.proofs.header.AmvHeader.duration.Reads as duration-reads
 
--- src/header.rt:54:23
 duration-requires : tie.Need-duration-requires
 duration-requires c κs = search needs
 
--- src/header.rt:54:23
 total-seconds-requires : tie.Need-total-seconds-requires
 total-seconds-requires c κs = search needs
 
--- src/header.rt:54:23
 cast-micros : tie.Need-cast-micros
 cast-micros c = search needs
 
--- src/header.rt:54:22
 mul-micros : tie.Need-mul-micros
 mul-micros c = search needs
 
--- src/header.rt:55:9
 cast-result : tie.Need-cast-result
 cast-result c = search needs
 
--- src/header.rt:51:5
 returns : tie.Need-returns
 returns c =
     let d = durationOf (c .before .before .args .self .«duration_packed») in

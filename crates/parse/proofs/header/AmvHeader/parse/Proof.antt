@@ -8,40 +8,31 @@ use Rattle.parse.proofs.header.AmvHeader.parse.Reads as reads
 use Rattle.parse.proofs.header.AmvHeader.parse.Lts as lts
 use Rattle.fields.proofs.read_u32_le.Reads as read-u32-le-reads
 
--- src/header.rt:31:13
 returns : tie.Need-returns
 unfolding headerOf
 returns c = simp (lt-leb _ _ (c .if1 .taken))
 
--- src/header.rt:34:31
 read-u32-le-requires : tie.Need-read-u32-le-requires
 read-u32-le-requires c κs = search needs
 
--- src/header.rt:35:20
 read-u32-le-requires-2 : tie.Need-read-u32-le-requires-2
 read-u32-le-requires-2 c κs = search needs
 
--- src/header.rt:36:21
 read-u32-le-requires-3 : tie.Need-read-u32-le-requires-3
 read-u32-le-requires-3 c κs = search needs
 
--- src/header.rt:37:18
 read-u32-le-requires-4 : tie.Need-read-u32-le-requires-4
 read-u32-le-requires-4 c κs = search needs
 
--- src/header.rt:38:23
 read-u32-le-requires-5 : tie.Need-read-u32-le-requires-5
 read-u32-le-requires-5 c κs = search needs
 
--- src/header.rt:39:26
 read-u32-le-requires-6 : tie.Need-read-u32-le-requires-6
 read-u32-le-requires-6 c κs = search needs
 
--- src/header.rt:40:30
 read-u32-le-requires-7 : tie.Need-read-u32-le-requires-7
 read-u32-le-requires-7 c κs = search needs
 
--- src/header.rt:27:5
 returns-2 : tie.Need-returns-2
 unfolding headerOf headerFields
 returns-2 c =

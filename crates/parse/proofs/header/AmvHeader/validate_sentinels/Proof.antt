@@ -7,31 +7,25 @@ use Rattle.parse.proofs.header.AmvHeader.validate_sentinels.Tie as tie
 use Rattle.parse.proofs.header.AmvHeader.validate_sentinels.Reads as reads
 use Rattle.parse.proofs.header.AmvHeader.validate_sentinels.Lts as lts
 
--- src/header.rt:64:13
 returns : tie.Need-returns
 unfolding headerSentinels
 returns c = rw (le-ltb 0 (c .before .before .args .self .fps) (omega arith))
 
--- src/header.rt:66:37
 div-if2 : tie.Need-div-if2
 div-if2 c = search needs
 
--- src/header.rt:67:13
 returns-2 : tie.Need-returns-2
 unfolding headerSentinels
 returns-2 c = rw (lt-ltb 0 (c .before .before .before .before .before .args .self .fps) (omega arith), ne-eqb _ _ (c .if2 .taken))
 
--- src/header.rt:70:13
 returns-3 : tie.Need-returns-3
 unfolding headerSentinels
 returns-3 c = rw (lt-ltb 0 (c .before .before .before .before .before .before .before .args .self .fps) (omega arith), eq-eqb _ _ (c .before .before .if2 .left), ne-eqb _ _ (c .if3 .taken))
 
--- src/header.rt:73:13
 returns-4 : tie.Need-returns-4
 unfolding headerSentinels
 returns-4 c = rw (lt-ltb 0 (c .before .before .before .before .before .before .before .before .before .args .self .fps) (omega arith), eq-eqb _ _ (c .before .before .before .before .if2 .left), eq-eqb _ _ (c .before .before .if3 .left), ne-eqb _ _ (c .if4 .taken))
 
--- src/header.rt:60:5
 returns-5 : tie.Need-returns-5
 unfolding headerSentinels
 returns-5 c = rw (lt-ltb 0 (c .before .before .before .before .before .before .before .before .before .args .self .fps) (omega arith), eq-eqb _ _ (c .before .before .before .before .if2 .left), eq-eqb _ _ (c .before .before .if3 .left), eq-eqb _ _ (c .if4 .left))

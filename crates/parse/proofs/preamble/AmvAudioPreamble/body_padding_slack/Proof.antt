@@ -6,19 +6,15 @@ use Rattle.parse.proofs.preamble.AmvAudioPreamble.body_padding_slack.Re
 use Rattle.parse.proofs.preamble.AmvAudioPreamble.body_padding_slack.Lts as lts
 use Rattle.parse.proofs.preamble.AmvAudioPreamble.nibble_body_len.Reads as nibble-body-len-reads
 
--- src/preamble.rt:79:46
 nibble-body-len-requires : tie.Need-nibble-body-len-requires
 nibble-body-len-requires c κs = search needs
 
--- src/preamble.rt:79:21
 add-exact : tie.Need-add-exact
 add-exact c = search needs
 
--- src/preamble.rt:76:5
 returns : tie.Need-returns
 returns c = rw (← c .before .nibble-body-len .ensures) (simp (lt-leb _ _ (c .if1 .taken)))
 
--- src/preamble.rt:76:5
 returns-2 : tie.Need-returns-2
 returns-2 c = rw (← c .before .nibble-body-len .ensures) (simp (le-leb _ _ (c .if1 .left)))
 

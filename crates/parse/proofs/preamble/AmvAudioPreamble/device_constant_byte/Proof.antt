@@ -9,11 +9,9 @@ use Rattle.parse.proofs.preamble.AmvAudioPreamble.device_constant_byte.
 use Rattle.parse.proofs.preamble.AmvAudioPreamble.device_constant_byte.Reads as reads
 use Rattle.parse.proofs.preamble.AmvAudioPreamble.device_constant_byte.Lts as lts
 
--- src/preamble.rt:108:9
 cast-result : tie.Need-cast-result
 cast-result c = search needs
 
--- src/preamble.rt:105:5
 returns : tie.Need-returns
 unfolding stateByte leBytes
 returns c = omega arith

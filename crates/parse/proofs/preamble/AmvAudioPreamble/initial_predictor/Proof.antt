@@ -26,28 +26,22 @@ signed n l h =
     let e : 65536 - suc (65535 - n) ≡ n = omega arith in
     rw e at (toZ-neg w16 (65535 - n) (omega arith))
 
--- src/preamble.rt:93:13
 cast-result : tie.Need-cast-result
 cast-result c = search needs
 
--- src/preamble.rt:95:19
 sub-result : tie.Need-sub-result
 sub-result c = search needs
 
--- src/preamble.rt:95:18
 cast-result-2 : tie.Need-cast-result-2
 cast-result-2 c = search needs
 
--- src/preamble.rt:95:13
 sub-result-2 : tie.Need-sub-result-2
 sub-result-2 c =
     rw (difference (c .before .before .args .self .state % 65536) (c .if1 .left) (omega arith)) (record { sfits = omega arith })
 
--- src/preamble.rt:88:5
 returns : tie.Need-returns
 returns c = search needs
 
--- src/preamble.rt:88:5
 returns-2 : tie.Need-returns-2
 returns-2 c =
     let n = c .before .before .args .self .state % 65536 in

@@ -7,11 +7,9 @@ use Rattle.parse.proofs.preamble.AmvAudioPreamble.initial_step_index.Ti
 use Rattle.parse.proofs.preamble.AmvAudioPreamble.initial_step_index.Reads as reads
 use Rattle.parse.proofs.preamble.AmvAudioPreamble.initial_step_index.Lts as lts
 
--- src/preamble.rt:102:9
 cast-result : tie.Need-cast-result
 cast-result c = search needs
 
--- src/preamble.rt:99:5
 returns : tie.Need-returns
 unfolding stateByte leBytes
 returns c = omega arith

@@ -7,15 +7,12 @@ use Rattle.parse.proofs.preamble.AmvAudioPreamble.is_consistent_with_bo
 use Rattle.parse.proofs.preamble.AmvAudioPreamble.is_consistent_with_body_len.Lts as lts
 use Rattle.parse.proofs.preamble.AmvAudioPreamble.nibble_body_len.Reads as nibble-body-len-reads
 
--- src/preamble.rt:73:55
 nibble-body-len-requires : tie.Need-nibble-body-len-requires
 nibble-body-len-requires c κs = search needs
 
--- src/preamble.rt:73:30
 add-result : tie.Need-add-result
 add-result c = search needs
 
--- src/preamble.rt:70:5
 returns : tie.Need-returns
 returns c = rw (c .nibble-body-len .ensures)
 

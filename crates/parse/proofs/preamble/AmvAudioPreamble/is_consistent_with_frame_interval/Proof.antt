@@ -7,11 +7,9 @@ use Rattle.parse.proofs.preamble.AmvAudioPreamble.is_consistent_with_fr
 use Rattle.parse.proofs.preamble.AmvAudioPreamble.is_consistent_with_frame_interval.Lts as lts
 use Rattle.fields.proofs.quotient.Reads as quotient-reads
 
--- src/preamble.rt:60:38
 quotient-requires : tie.Need-quotient-requires
 quotient-requires c κs = search needs
 
--- src/preamble.rt:57:5
 returns : tie.Need-returns
 returns c = rw (c .before .quotient .ensures)
 

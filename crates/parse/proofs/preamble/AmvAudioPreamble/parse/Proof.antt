@@ -8,20 +8,16 @@ use Rattle.parse.proofs.preamble.AmvAudioPreamble.parse.Reads as reads
 use Rattle.parse.proofs.preamble.AmvAudioPreamble.parse.Lts as lts
 use Rattle.fields.proofs.read_u32_le.Reads as read-u32-le-reads
 
--- src/preamble.rt:38:13
 returns : tie.Need-returns
 unfolding preambleOf
 returns c = simp (lt-leb _ _ (c .if1 .taken))
 
--- src/preamble.rt:40:13
 read-u32-le-requires : tie.Need-read-u32-le-requires
 read-u32-le-requires c κs = search needs
 
--- src/preamble.rt:41:13
 read-u32-le-requires-2 : tie.Need-read-u32-le-requires-2
 read-u32-le-requires-2 c κs = search needs
 
--- src/preamble.rt:34:5
 returns-2 : tie.Need-returns-2
 unfolding preambleOf
 returns-2 c =

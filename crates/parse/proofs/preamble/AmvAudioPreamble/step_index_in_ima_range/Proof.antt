@@ -7,11 +7,9 @@ use Rattle.parse.proofs.preamble.AmvAudioPreamble.step_index_in_ima_ran
 use Rattle.parse.proofs.preamble.AmvAudioPreamble.step_index_in_ima_range.Lts as lts
 use Rattle.parse.proofs.preamble.AmvAudioPreamble.initial_step_index.Reads as initial-step-index-reads
 
--- src/preamble.rt:114:9
 initial-step-index-requires : tie.Need-initial-step-index-requires
 initial-step-index-requires c κs = search needs
 
--- src/preamble.rt:111:5
 returns : tie.Need-returns
 returns c = rw (c .initial-step-index .ensures)
 

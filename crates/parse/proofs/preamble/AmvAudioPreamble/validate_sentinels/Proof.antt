@@ -5,11 +5,9 @@ use Rattle.parse.proofs.preamble.AmvAudioPreamble.validate_sentinels.Ti
 use Rattle.parse.proofs.preamble.AmvAudioPreamble.validate_sentinels.Reads as reads
 use Rattle.parse.proofs.preamble.AmvAudioPreamble.validate_sentinels.Lts as lts
 
--- src/preamble.rt:52:13
 returns : tie.Need-returns
 returns c = simp (le-ltb 0 (c .before .before .args .self .«decoded_sample_count») (omega arith))
 
--- src/preamble.rt:48:5
 returns-2 : tie.Need-returns-2
 returns-2 c = simp (lt-ltb 0 (c .before .before .args .self .«decoded_sample_count») (omega arith))
 

@@ -10,40 +10,31 @@ use Rattle.fields.proofs.read_u16_le.Reads as read-u16-le-reads
 use Rattle.fields.proofs.read_u32_le.Reads as read-u32-le-reads
 use Rattle.parse.proofs.wave_format.cb_size.Reads as cb-size-reads
 
--- src/wave_format.rt:39:13
 returns : tie.Need-returns
 unfolding waveFormatOf
 returns c = simp (lt-leb _ _ (c .if1 .taken))
 
--- src/wave_format.rt:42:25
 read-u16-le-requires : tie.Need-read-u16-le-requires
 read-u16-le-requires c κs = search needs
 
--- src/wave_format.rt:43:23
 read-u16-le-requires-2 : tie.Need-read-u16-le-requires-2
 read-u16-le-requires-2 c κs = search needs
 
--- src/wave_format.rt:44:30
 read-u32-le-requires : tie.Need-read-u32-le-requires
 read-u32-le-requires c κs = search needs
 
--- src/wave_format.rt:45:32
 read-u32-le-requires-2 : tie.Need-read-u32-le-requires-2
 read-u32-le-requires-2 c κs = search needs
 
--- src/wave_format.rt:46:26
 read-u16-le-requires-3 : tie.Need-read-u16-le-requires-3
 read-u16-le-requires-3 c κs = search needs
 
--- src/wave_format.rt:47:30
 read-u16-le-requires-4 : tie.Need-read-u16-le-requires-4
 read-u16-le-requires-4 c κs = search needs
 
--- src/wave_format.rt:48:22
 cb-size-requires : tie.Need-cb-size-requires
 cb-size-requires c κs = search needs
 
--- src/wave_format.rt:35:5
 returns-2 : tie.Need-returns-2
 unfolding waveFormatOf waveFormatFields
 returns-2 c =

@@ -8,41 +8,33 @@ use Rattle.parse.proofs.wave_format.AmvWaveFormat.validate_sentinels.Re
 use Rattle.parse.proofs.wave_format.AmvWaveFormat.validate_sentinels.Lts as lts
 use Rattle.fields.proofs.saturating_mul.Reads as saturating-mul-reads
 
--- src/wave_format.rt:66:13
 returns : tie.Need-returns
 unfolding waveFormatSentinels
 returns c = rw (ne-eqb _ _ (c .if1 .taken))
 
--- src/wave_format.rt:69:13
 returns-2 : tie.Need-returns-2
 unfolding waveFormatSentinels
 returns-2 c = rw (eq-eqb _ _ (c .before .before .if1 .left), ne-eqb _ _ (c .if2 .taken))
 
--- src/wave_format.rt:71:38
 saturating-mul-requires : tie.Need-saturating-mul-requires
 saturating-mul-requires c κs = search needs
 
--- src/wave_format.rt:72:13
 returns-3 : tie.Need-returns-3
 unfolding waveFormatSentinels
 returns-3 c = rw (eq-eqb _ _ (c .before .before .before .before .before .if1 .left), eq-eqb _ _ (c .before .before .before .if2 .left), ne-eqb _ _ (λ e. c .if3 .taken (e ∙ sym (c .before .before .saturating-mul .ensures))))
 
--- src/wave_format.rt:75:13
 returns-4 : tie.Need-returns-4
 unfolding waveFormatSentinels
 returns-4 c = rw (eq-eqb _ _ (c .before .before .before .before .before .before .before .if1 .left), eq-eqb _ _ (c .before .before .before .before .before .if2 .left), eq-eqb _ _ (c .before .before .if3 .left ∙ c .before .before .before .before .saturating-mul .ensures), ne-eqb _ _ (c .if4 .taken))
 
--- src/wave_format.rt:78:13
 returns-5 : tie.Need-returns-5
 unfolding waveFormatSentinels
 returns-5 c = rw (eq-eqb _ _ (c .before .before .before .before .before .before .before .before .before .if1 .left), eq-eqb _ _ (c .before .before .before .before .before .before .before .if2 .left), eq-eqb _ _ (c .before .before .before .before .if3 .left ∙ c .before .before .before .before .before .before .saturating-mul .ensures), eq-eqb _ _ (c .before .before .if4 .left), ne-eqb _ _ (c .if5 .taken))
 
--- src/wave_format.rt:81:13
 returns-6 : tie.Need-returns-6
 unfolding waveFormatSentinels
 returns-6 c = rw (eq-eqb _ _ (c .before .before .before .before .before .before .before .before .before .before .before .if1 .left), eq-eqb _ _ (c .before .before .before .before .before .before .before .before .before .if2 .left), eq-eqb _ _ (c .before .before .before .before .before .before .if3 .left ∙ c .before .before .before .before .before .before .before .before .saturating-mul .ensures), eq-eqb _ _ (c .before .before .before .before .if4 .left), eq-eqb _ _ (c .before .before .if5 .left), ne-eqb _ _ (c .if6 .taken))
 
--- src/wave_format.rt:62:5
 returns-7 : tie.Need-returns-7
 unfolding waveFormatSentinels
 returns-7 c = rw (eq-eqb _ _ (c .before .before .before .before .before .before .before .before .before .before .before .if1 .left), eq-eqb _ _ (c .before .before .before .before .before .before .before .before .before .if2 .left), eq-eqb _ _ (c .before .before .before .before .before .before .if3 .left ∙ c .before .before .before .before .before .before .before .before .saturating-mul .ensures), eq-eqb _ _ (c .before .before .before .before .if4 .left), eq-eqb _ _ (c .before .before .if5 .left), eq-eqb _ _ (c .if6 .left))

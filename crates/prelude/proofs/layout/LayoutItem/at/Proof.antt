@@ -19,117 +19,94 @@ missed : (i n : ℕ) → Missed i n → n ≤ i
 missed i zero t = omega arith
 missed i (suc n) t = lt-of-le-ne (missed i n (t .0)) (λ e. t .1 (sym e))
 
--- src/layout.rt:36:5
 returns : tie.Need-returns
 unfolding layout
 returns c = rw (c .match .keys1)
 
--- src/layout.rt:36:5
 returns-2 : tie.Need-returns-2
 unfolding layout
 returns-2 c = rw (c .match .keys2)
 
--- src/layout.rt:36:5
 returns-3 : tie.Need-returns-3
 unfolding layout
 returns-3 c = rw (c .match .keys3)
 
--- src/layout.rt:36:5
 returns-4 : tie.Need-returns-4
 unfolding layout
 returns-4 c = rw (c .match .keys4)
 
--- src/layout.rt:36:5
 returns-5 : tie.Need-returns-5
 unfolding layout
 returns-5 c = rw (c .match .keys5)
 
--- src/layout.rt:36:5
 returns-6 : tie.Need-returns-6
 unfolding layout
 returns-6 c = rw (c .match .keys6)
 
--- src/layout.rt:36:5
 returns-7 : tie.Need-returns-7
 unfolding layout
 returns-7 c = rw (c .match .keys7)
 
--- src/layout.rt:36:5
 returns-8 : tie.Need-returns-8
 unfolding layout
 returns-8 c = rw (c .match .keys8)
 
--- src/layout.rt:36:5
 returns-9 : tie.Need-returns-9
 unfolding layout
 returns-9 c = rw (c .match .keys9)
 
--- src/layout.rt:36:5
 returns-10 : tie.Need-returns-10
 unfolding layout
 returns-10 c = rw (c .match .keys10)
 
--- src/layout.rt:36:5
 returns-11 : tie.Need-returns-11
 unfolding layout
 returns-11 c = rw (c .match .keys11)
 
--- src/layout.rt:36:5
 returns-12 : tie.Need-returns-12
 unfolding layout
 returns-12 c = rw (c .match .keys12)
 
--- src/layout.rt:36:5
 returns-13 : tie.Need-returns-13
 unfolding layout
 returns-13 c = rw (c .match .keys13)
 
--- src/layout.rt:36:5
 returns-14 : tie.Need-returns-14
 unfolding layout
 returns-14 c = rw (c .match .keys14)
 
--- src/layout.rt:36:5
 returns-15 : tie.Need-returns-15
 unfolding layout
 returns-15 c = rw (c .match .keys15)
 
--- src/layout.rt:36:5
 returns-16 : tie.Need-returns-16
 unfolding layout
 returns-16 c = rw (c .match .keys16)
 
--- src/layout.rt:36:5
 returns-17 : tie.Need-returns-17
 unfolding layout
 returns-17 c = rw (c .match .keys17)
 
--- src/layout.rt:36:5
 returns-18 : tie.Need-returns-18
 unfolding layout
 returns-18 c = rw (c .match .keys18)
 
--- src/layout.rt:36:5
 returns-19 : tie.Need-returns-19
 unfolding layout
 returns-19 c = rw (c .match .keys19)
 
--- src/layout.rt:36:5
 returns-20 : tie.Need-returns-20
 unfolding layout
 returns-20 c = rw (c .match .keys20)
 
--- src/layout.rt:36:5
 returns-21 : tie.Need-returns-21
 unfolding layout
 returns-21 c = rw (c .match .keys21)
 
--- src/layout.rt:36:5
 returns-22 : tie.Need-returns-22
 unfolding layout
 returns-22 c = rw (c .match .keys22)
 
--- src/layout.rt:36:5
 returns-23 : tie.Need-returns-23
 unfolding layout
 returns-23 c = sym (List·getD-eq-default layout past (missed _ 22 (c .match .rest)))

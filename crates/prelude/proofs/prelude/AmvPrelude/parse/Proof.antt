@@ -13,38 +13,30 @@ use Rattle.fields.proofs.file.within_limit.Reads as within-limit-reads
 use Rattle.prelude.proofs.prelude.AmvPrelude.read.Reads as read-reads
 use Rattle.prelude.proofs.prelude.require_layout.Reads as require-layout-reads
 
--- src/prelude.rt:145:13
 within-limit-requires : tie.Need-within-limit-requires
 within-limit-requires c κs = search needs
 
--- src/prelude.rt:146:13
 returns : tie.Need-returns
 unfolding parseOf
 returns c = rw (sym (c .before .within-limit .ensures) ∙ not-true _ (c .if1 .taken))
 
--- src/prelude.rt:148:15
 require-layout-requires : tie.Need-require-layout-requires
 require-layout-requires c κs = search needs
 
--- src/prelude.rt:149:28
 enum-known-e : tie.Need-enum-known-e
 enum-known-e c = search needs
 
--- src/prelude.rt:150:30
 enum-told : tie.Need-enum-told
 enum-told c = search needs
 
--- src/prelude.rt:150:30
 read-requires : tie.Need-read-requires
 read-requires c κs = layout-length _ (sym (c .before .before .require-layout .ensures) ∙ ap said (c .enum-told .given .1))
 
--- src/prelude.rt:142:5
 returns-2 : tie.Need-returns-2
 unfolding parseOf
 returns-2 c = rw (sym (c .before .before .before .before .before .within-limit .ensures) ∙ not-false _ (c .before .before .before .before .if1 .left))
     (sym (then-err _ (c .before .before .before .require-layout .ensures) (c .before .e .given .1)))
 
--- src/prelude.rt:142:5
 returns-3 : tie.Need-returns-3
 unfolding parseOf
 returns-3 c = rw (sym (c .before .before .before .before .before .within-limit .ensures) ∙ not-false _ (c .before .before .before .before .if1 .left))

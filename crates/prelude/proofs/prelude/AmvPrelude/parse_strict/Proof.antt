@@ -11,28 +11,22 @@ use Rattle.prelude.proofs.prelude.AmvPrelude.parse_strict.Lts as lts
 use Rattle.prelude.proofs.prelude.AmvPrelude.parse.Reads as parse-reads
 use Rattle.prelude.proofs.prelude.AmvPrelude.validated.Reads as validated-reads
 
--- src/prelude.rt:177:15
 parse-requires : tie.Need-parse-requires
 parse-requires c κs = search needs
 
--- src/prelude.rt:178:35
 enum-known-e : tie.Need-enum-known-e
 enum-known-e c = search needs
 
--- src/prelude.rt:179:34
 enum-known-prelude : tie.Need-enum-known-prelude
 enum-known-prelude c = search needs
 
--- src/prelude.rt:179:46
 validated-requires : tie.Need-validated-requires
 validated-requires c κs = parsed-length _ (sym (c .before .before .before .parse .ensures) ∙ ap saidPrelude (c .before .prelude .given .1))
 
--- src/prelude.rt:174:5
 returns : tie.Need-returns
 unfolding strictOf
 returns c = rw (sym (c .before .before .before .parse .ensures) ∙ ap saidPrelude (c .before .e .given .1))
 
--- src/prelude.rt:174:5
 returns-2 : tie.Need-returns-2
 unfolding strictOf
 returns-2 c = rw (sym (c .before .before .before .before .parse .ensures) ∙ ap saidPrelude (c .before .before .prelude .given .1)) (c .validated .ensures)

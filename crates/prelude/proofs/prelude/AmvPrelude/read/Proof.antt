@@ -13,69 +13,54 @@ use Rattle.prelude.proofs.prelude.AmvPrelude.read.Lts as lts
 use Rattle.parse.proofs.header.AmvHeader.parse.Reads as header-AmvHeader-parse-reads
 use Rattle.parse.proofs.wave_format.AmvWaveFormat.parse.Reads as wave-format-AmvWaveFormat-parse-reads
 
--- src/prelude.rt:159:45
 sub-parse : tie.Need-sub-parse
 sub-parse c = search needs
 
--- src/prelude.rt:159:45
 part-parse-start : tie.Need-part-parse-start
 part-parse-start c = search needs
 
--- src/prelude.rt:159:45
 part-parse-end : tie.Need-part-parse-end
 part-parse-end c = search needs
 
--- src/prelude.rt:159:28
 parse-requires : tie.Need-parse-requires
 parse-requires c κs = search needs
 
--- src/prelude.rt:160:33
 enum-known-header : tie.Need-enum-known-header
 enum-known-header c = search needs
 
--- src/prelude.rt:161:34
 enum-known-e : tie.Need-enum-known-e
 enum-known-e c = search needs
 
--- src/prelude.rt:161:40
 returns : tie.Need-returns
 returns c =
     let start = c .before .before .before .before .before .before in
     let file = start .args .file .now in
     never (sym (header-body file (start .pre)) ∙ sym (c .before .before .before .parse .ensures) ∙ ap saidHeader (c .before .e .given .1))
 
--- src/prelude.rt:163:55
 sub-parse-2 : tie.Need-sub-parse-2
 sub-parse-2 c = search needs
 
--- src/prelude.rt:163:55
 part-parse-start-2 : tie.Need-part-parse-start-2
 part-parse-start-2 c = search needs
 
--- src/prelude.rt:163:55
 part-parse-end-2 : tie.Need-part-parse-end-2
 part-parse-end-2 c = search needs
 
--- src/prelude.rt:163:34
 parse-requires-2 : tie.Need-parse-requires-2
 parse-requires-2 c κs = search needs
 
--- src/prelude.rt:164:37
 enum-known-format : tie.Need-enum-known-format
 enum-known-format c = search needs
 
--- src/prelude.rt:165:38
 enum-known-e-2 : tie.Need-enum-known-e-2
 enum-known-e-2 c = search needs
 
--- src/prelude.rt:165:44
 returns-2 : tie.Need-returns-2
 returns-2 c =
     let start = c .before .before .before .before .before .before .before .before .before .before .before in
     let file = start .args .file .now in
     never (sym (wave-format-body file (start .pre)) ∙ sym (c .before .before .before .parse2 .ensures) ∙ ap saidWaveFormat (c .before .e2 .given .1))
 
--- src/prelude.rt:155:5
 returns-3 : tie.Need-returns-3
 unfolding preludeFields
 returns-3 c = let start = c .before .before .before .before .before .before .before .before .before .before .before in

@@ -10,15 +10,12 @@ use Rattle.parse.proofs.header.AmvHeader.validate_sentinels.Reads as header-Amv
 use Rattle.parse.proofs.wave_format.AmvWaveFormat.validate_sentinels.Reads as wave-format-AmvWaveFormat-validate-sentinels-reads
 use Rattle.prelude.proofs.prelude.require_zero_ranges.Reads as require-zero-ranges-reads
 
--- src/prelude.rt:189:36
 validate-sentinels-requires : tie.Need-validate-sentinels-requires
 validate-sentinels-requires c κs = search needs
 
--- src/prelude.rt:189:31
 enum-known-e : tie.Need-enum-known-e
 enum-known-e c = search needs
 
--- src/prelude.rt:190:13
 returns : tie.Need-returns
 unfolding validatedOf
 returns c = sym (then-err _ (c .before .before .before .validate-sentinels .ensures) (c .before .e .given .1))
@@ -26,15 +23,12 @@ returns c = sym (then-err _ (c .before .before .before .validate-sentinels .ensu
 enum-told : tie.Need-enum-told
 enum-told c = search needs
 
--- src/prelude.rt:192:36
 require-zero-ranges-requires : tie.Need-require-zero-ranges-requires
 require-zero-ranges-requires c κs = search needs
 
--- src/prelude.rt:192:31
 enum-known-e-2 : tie.Need-enum-known-e-2
 enum-known-e-2 c = search needs
 
--- src/prelude.rt:193:13
 returns-2 : tie.Need-returns-2
 unfolding validatedOf
 returns-2 c = let first = then-ok _ (c .before .before .before .before .before .before .validate-sentinels .ensures) (c .before .before .before .before .enum-told .given .1) in
@@ -43,15 +37,12 @@ returns-2 c = let first = then-ok _ (c .before .before .before .before .before .
 enum-told-2 : tie.Need-enum-told-2
 enum-told-2 c = search needs
 
--- src/prelude.rt:196:36
 validate-sentinels-requires-2 : tie.Need-validate-sentinels-requires-2
 validate-sentinels-requires-2 c κs = search needs
 
--- src/prelude.rt:196:31
 enum-known-e-3 : tie.Need-enum-known-e-3
 enum-known-e-3 c = search needs
 
--- src/prelude.rt:197:13
 returns-3 : tie.Need-returns-3
 unfolding validatedOf
 returns-3 c = let first = then-ok _ (c .before .before .before .before .before .before .before .before .before .before .validate-sentinels .ensures) (c .before .before .before .before .before .before .before .before .enum-told .given .1) in
@@ -61,7 +52,6 @@ returns-3 c = let first = then-ok _ (c .before .before .before .before .before .
 enum-told-3 : tie.Need-enum-told-3
 enum-told-3 c = search needs
 
--- src/prelude.rt:184:5
 returns-4 : tie.Need-returns-4
 unfolding validatedOf
 returns-4 c = let first = then-ok _ (c .before .before .before .before .before .before .before .before .before .validate-sentinels .ensures) (c .before .before .before .before .before .before .before .enum-told .given .1) in
