@@ -11,7 +11,7 @@ use Rattle.chunk_index.specs.Entry.{entryLen, entryBytes, tableBytes, en
 use Rattle.chunk_index.specs.declared.entry.ChunkIndexEntry.{ChunkIndexEntry}
 
 -- five stores, one after another, write the record
-pub entry-stored : (table : List ℕ) (at : ℕ) (e : ChunkIndexEntry) → at + 24 ≤ length table
+pub entry-stored : (table : List ℕ) (at : ℕ) (e : ChunkIndexEntry) → at + entryLen ≤ length table
     → putLe 8
     (putLe 4 (putLe 4 (putLe 4 (putLe 4 table at (e .tag)) (at + 4) (e .position .cursor)) (at + 8) (e .position .frames .0)) (at + 12) (e .position .blocks .0))
     (at + 16) (e .position .samples .0)
@@ -28,7 +28,7 @@ entry-stored table at e h =
     ∙ ap (λ (t : List ℕ). put t (at + 16) f) (put-put table at ((a ++ b) ++ c) d (omega arith))
     ∙ put-put table at (((a ++ b) ++ c) ++ d) f (omega arith)
 
-pub length-entryBytes : (e : ChunkIndexEntry) → length (entryBytes e) ≡ 24
+pub length-entryBytes : (e : ChunkIndexEntry) → length (entryBytes e) ≡ entryLen
 unfolding leBytes entryBytes
 length-entryBytes e = refl
 

@@ -1,8 +1,7 @@
-pub mod Walks
 pub mod Folds
 pub mod Entries
 pub mod Counting
+pub mod Summing
 pub mod Writing
 pub mod Building
-pub mod Chunked
 pub mod Sentences

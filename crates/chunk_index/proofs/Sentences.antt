@@ -8,7 +8,7 @@ use native.Mathlib.Nat.{add-zero}
 use native.Mathlib.Omega.{arith}
 use borrow.Author.Tests.{le-leb, lt-leb}
 use lib.Dec.{leb}
-use lib.ListN.{length, drop, length-append}
+use lib.ListN.{length, drop, length-append, length-take, length-drop}
 use lib.Seq.{drop-at}
 use Rattle.chunk.specs.Chunk.{videoTag, audioTag}
 use Rattle.error.specs.Answer.{Answer, accepted, refused, ask, andThen}
@@ -19,21 +19,29 @@ use Rattle.error.proofs.Sentences.{asked-by, then-by}
 use Rattle.fields.specs.File.{withinLimit}
 use Rattle.fields.specs.Le.{leBytes, put}
 use Rattle.demuxer.specs.Head.{headAt, isTrailer, chunkHead}
+use Rattle.prelude.specs.Layout.{preludeLen}
 use Rattle.demuxer.specs.Position.{start}
+use Rattle.demuxer.specs.Read.{payloadAt}
 use Rattle.demuxer.specs.declared.head.Head.the-variants as head
 use Rattle.demuxer.specs.declared.position.Position.{Position}
 use Rattle.demuxer.proofs.Heads.{head-out}
 use Rattle.demuxer.proofs.Suffixes.{chunk-suffix}
 use Rattle.chunk_index.specs.Entry.{entryLen, entry, tableBytes}
-use Rattle.chunk_index.specs.Index.{recorded, records, tagsKnown, fileWalk, indexOf, builtFrom, buildOf, counted, countsFrom, summaryOf}
+use Rattle.chunk_index.specs.Index.{recorded, records, tagsKnown, indexOf, builtFrom, buildOf}
 use Rattle.chunk_index.specs.Sentences.{tagged, EndsIn, IndexSentences}
-use Rattle.chunk_index.specs.Steps.{indexedAt}
-use Rattle.chunk_index.specs.Walk.{Kind, frame, sound, Stop, ranOut, trailer, unknownTag, Walk, stop, chunk, walk, past}
+use Rattle.chunk_index.specs.Steps.{recordedAt}
+use Rattle.chunk_index.specs.Summary.{noneCounted, counted, countsFrom, summaryOf}
 use Rattle.chunk_index.specs.declared.entry.ChunkIndexEntry.{ChunkIndexEntry}
-use Rattle.chunk_index.specs.declared.index.ChunkCounts.{ChunkCounts}
-use Rattle.chunk_index.specs.declared.index.Indexed.the-variants as indexed
+use Rattle.chunk_index.specs.declared.summary.ChunkCounts.{ChunkCounts}
 use Rattle.chunk_index.proofs.Entries.{length-table}
-use Rattle.chunk_index.proofs.Folds.{step-means}
+use Rattle.chunk_index.proofs.Folds.{records-on, records-end}
+use Rattle.walk.specs.Walk.{chunkAt, onHead, stepAt, Walk, stop, chunk, walk, fileWalk, past}
+use Rattle.walk.specs.declared.Kind.{Kind}
+use Rattle.walk.specs.declared.Kind.the-variants.{Frame, Sound}
+use Rattle.walk.specs.declared.Step.the-variants as step
+use Rattle.walk.specs.declared.Stop.the-variants.{RanOut, Trailer, UnknownTag}
+use Rattle.walk.specs.Steps.{pastAt}
+use Rattle.walk.proofs.Walks.{Goes, step-out, step-means}
 
 -- ---- a chunk that is cut
 
@@ -49,36 +57,46 @@ module _ (file part : List ℕ) (p : Position) (tag size : ℕ) (e : EndsIn file
 
   -- nothing is recorded after it
   no-more : (q : Position) → records q (walk file (p .cursor + (8 + size))) ≡ []
-  unfolding indexedAt
+  unfolding records
   no-more q =
       let l = ends-at in
       let c = e .cut in
-      step-means file (p .cursor + (8 + size)) indexed.Stop (rw (head-out file (p .cursor + (8 + size)) (omega arith))) .none q
+      ap (records q) (step-means file (p .cursor + (8 + size)) (step.Stop RanOut) (step-out file (p .cursor + (8 + size)) (omega arith)))
 
 cut-frame : (file part : List ℕ) (p : Position) (size : ℕ) → EndsIn file p videoTag size part
     → records p (walk file (p .cursor)) ≡ record { tag = videoTag; position = p } ∷ []
-unfolding indexedAt
+unfolding stepAt
 cut-frame file part p size e =
-    step-means file (p .cursor) (indexed.Frame size) (rw (head-is file part p videoTag size e (omega arith) refl)) .more p
-    ∙ ap (λ (es : List ChunkIndexEntry). entry frame p ∷ es) (no-more file part p videoTag size e _)
+    let c = chunkAt file (p .cursor) Frame size in
+    let h = head-is file part p videoTag size e (omega arith) refl in
+    let g = step-means file (p .cursor) (step.Chunk c) (ap (onHead file (p .cursor)) h) in
+    records-on file p c g refl ∙ ap (λ (es : List ChunkIndexEntry). entry Frame p ∷ es) (no-more file part p videoTag size e (pastAt file p c))
 
 module _ (file part : List ℕ) (p : Position) (size : ℕ) (e : EndsIn file p audioTag size part) where
-  cut-sound : min 8 size ≤ length part → records p (walk file (p .cursor)) ≡ record { tag = audioTag; position = p } ∷ []
-  unfolding indexedAt
-  cut-sound h =
+  heard : Goes file (p .cursor) (chunkAt file (p .cursor) Sound size)
+  unfolding stepAt
+  heard =
+      step-means file (p .cursor) (step.Chunk (chunkAt file (p .cursor) Sound size))
+      (ap (onHead file (p .cursor)) (head-is file part p audioTag size e (omega arith) refl))
+
+  -- what is missing of it
+  gone : chunkAt file (p .cursor) Sound size .missing + length part ≡ size
+  gone =
       let l = ends-at file part p audioTag size e in
-      step-means file (p .cursor) (indexed.Sound size)
-      (rw (head-is file part p audioTag size e (omega arith) refl, le-leb (p .cursor + 8 + min 8 size) (length file) (omega arith)))
-      .more p
-      ∙ ap (λ (es : List ChunkIndexEntry). entry sound p ∷ es) (no-more file part p audioTag size e _)
+      let c = e .cut in
+      let n : length (payloadAt file (p .cursor) size) ≡ length part = simp (length-take, length-drop) (omega arith) in
+      omega arith
+
+  cut-sound : min 8 size ≤ length part → records p (walk file (p .cursor)) ≡ record { tag = audioTag; position = p } ∷ []
+  cut-sound h =
+      let c = chunkAt file (p .cursor) Sound size in
+      records-on file p c heard (le-leb (min 8 size + c .missing) size (omega (arith, gone)))
+      ∙ ap (λ (es : List ChunkIndexEntry). entry Sound p ∷ es) (no-more file part p audioTag size e (pastAt file p c))
 
   lost-sound : length part < min 8 size → records p (walk file (p .cursor)) ≡ []
-  unfolding indexedAt
   lost-sound h =
-      let l = ends-at file part p audioTag size e in
-      step-means file (p .cursor) indexed.Stop
-      (rw (head-is file part p audioTag size e (omega arith) refl, lt-leb (p .cursor + 8 + min 8 size) (length file) (omega arith)))
-      .none p
+      let c = chunkAt file (p .cursor) Sound size in
+      records-end file p c heard (lt-leb (min 8 size + c .missing) size (omega (arith, gone)))
 
 -- ---- the summary
 
@@ -95,35 +113,35 @@ counts-are s p (chunk kind payload missing rest) =
     go : (b : Bool) (k : Kind) → ((k : Kind) → countsFrom (counted k s) rest ≡ onTop (counted k s) (records (past p k payload missing) rest))
         → cond b (countsFrom (counted k s) rest) s ≡ onTop s (cond b (entry k p ∷ records (past p k payload missing) rest) [])
     go false k later = λ i. record { frames = sym (add-zero (s .frames)) i; blocks = sym (add-zero (s .blocks)) i }
-    go true frame later =
-        let es = records (past p frame payload missing) rest in
+    go true Frame later =
+        let es = records (past p Frame payload missing) rest in
         let f : s .frames + 1 + tagged videoTag es ≡ s .frames + suc (tagged videoTag es) = omega arith in
-        later frame ∙ (λ i. record { frames = f i; blocks = s .blocks + tagged audioTag es })
-    go true sound later =
-        let es = records (past p sound payload missing) rest in
+        later Frame ∙ (λ i. record { frames = f i; blocks = s .blocks + tagged audioTag es })
+    go true Sound later =
+        let es = records (past p Sound payload missing) rest in
         let f : s .blocks + 1 + tagged audioTag es ≡ s .blocks + suc (tagged audioTag es) = omega arith in
-        later sound ∙ (λ i. record { frames = s .frames + tagged videoTag es; blocks = f i })
+        later Sound ∙ (λ i. record { frames = s .frames + tagged videoTag es; blocks = f i })
 
 summary-counts : (file : List ℕ)
     → summaryOf file ≡ andThen (indexOf file) (λ es. accepted (record { frames = tagged videoTag es; blocks = tagged audioTag es }))
 unfolding summaryOf indexOf
-summary-counts file = go (withinLimit file) (tagsKnown 316 (fileWalk file))
+summary-counts file = go (withinLimit file) (tagsKnown preludeLen (fileWalk file))
   where
     es : List ChunkIndexEntry
     es = records start (fileWalk file)
 
-    zero-top : onTop (record { frames = 0; blocks = 0 }) es ≡ record { frames = tagged videoTag es; blocks = tagged audioTag es }
+    zero-top : onTop noneCounted es ≡ record { frames = tagged videoTag es; blocks = tagged audioTag es }
     zero-top =
         let f : 0 + tagged videoTag es ≡ tagged videoTag es = omega arith in
         let b : 0 + tagged audioTag es ≡ tagged audioTag es = omega arith in
         λ i. record { frames = f i; blocks = b i }
 
     go : (b : Bool) (known : Answer Unit)
-        → ask b 10 0 (andThen known (λ _. accepted (countsFrom (record { frames = 0; blocks = 0 }) (fileWalk file))))
+        → ask b 10 0 (andThen known (λ _. accepted (countsFrom noneCounted (fileWalk file))))
         ≡ andThen (ask b 10 0 (andThen known (λ _. accepted es))) (λ es. accepted (record { frames = tagged videoTag es; blocks = tagged audioTag es }))
     go false known = refl
     go true (refused r) = refl
-    go true (accepted u) = ap accepted (counts-are (record { frames = 0; blocks = 0 }) start (fileWalk file) ∙ zero-top)
+    go true (accepted u) = ap accepted (counts-are noneCounted start (fileWalk file) ∙ zero-top)
 
 -- ---- the table
 
@@ -177,9 +195,9 @@ gives-back file table r = go (andThen (indexOf file) (λ es. ask (leb (entryLen 
 module _ (numbers : List ℕ) (n : oneOf numbers 31 ≡ true) where
   known-by : (at : ℕ) (w : Walk) → RefusedBy numbers (tagsKnown at w)
   unfolding tagsKnown
-  known-by at (stop ranOut) = tt
-  known-by at (stop (trailer k)) = tt
-  known-by at (stop unknownTag) = n
+  known-by at (stop RanOut) = tt
+  known-by at (stop (Trailer k)) = tt
+  known-by at (stop UnknownTag) = n
   known-by at (chunk kind payload missing rest) = go (recorded kind payload missing) _ (known-by (at + (8 + (length payload + missing))) rest)
     where
       go : (b : Bool) (later : Answer Unit) → RefusedBy numbers later → RefusedBy numbers (cond b later (accepted tt))
@@ -190,7 +208,7 @@ index-by : (file : List ℕ) → RefusedBy (10 ∷ 31 ∷ 40 ∷ []) (indexOf fi
 unfolding indexOf
 index-by file =
     asked-by (10 ∷ 31 ∷ 40 ∷ []) (withinLimit file) 10 0 _ refl
-    (then-by (10 ∷ 31 ∷ 40 ∷ []) (tagsKnown 316 (fileWalk file)) _ (known-by (10 ∷ 31 ∷ 40 ∷ []) refl 316 (fileWalk file)) (λ u. tt))
+    (then-by (10 ∷ 31 ∷ 40 ∷ []) (tagsKnown preludeLen (fileWalk file)) _ (known-by (10 ∷ 31 ∷ 40 ∷ []) refl preludeLen (fileWalk file)) (λ u. tt))
 
 built-by : (table : List ℕ) (a : Answer (List ChunkIndexEntry)) → RefusedBy (10 ∷ 31 ∷ 40 ∷ []) a
     → RefusedBy (10 ∷ 31 ∷ 40 ∷ []) (builtFrom table a .answer)
@@ -221,5 +239,5 @@ index-sentences =
       summary-numbers =
           λ file.
           asked-by (10 ∷ 31 ∷ []) (withinLimit file) 10 0 _ refl
-          (then-by (10 ∷ 31 ∷ []) (tagsKnown 316 (fileWalk file)) _ (known-by (10 ∷ 31 ∷ []) refl 316 (fileWalk file)) (λ u. tt));
+          (then-by (10 ∷ 31 ∷ []) (tagsKnown preludeLen (fileWalk file)) _ (known-by (10 ∷ 31 ∷ []) refl preludeLen (fileWalk file)) (λ u. tt));
     }

@@ -2,20 +2,17 @@
 use Prim.Native.Nat.{ℕ, zero, suc, _+_, _/_, _<_}
 use mathlib.Core.List.{List, [], _∷_, _++_}
 use lib.ListN.{length}
-use Rattle.chunk.specs.Chunk.{videoTag, audioTag}
 use Rattle.fields.specs.Le.{le, leBytes}
 use Rattle.demuxer.specs.declared.position.Position.{Position}
+use Rattle.walk.specs.Walk.{kindTag}
+use Rattle.walk.specs.declared.Kind.{Kind}
 use Rattle.chunk_index.specs.declared.entry.ChunkIndexEntry.{ChunkIndexEntry}
-use Rattle.chunk_index.specs.Walk.{Kind, frame, sound}
 
 -- 01: "Records are 24 bytes, no header"
 abbrev pub entryLen : ℕ
 entryLen = 24
 
-abbrev pub kindTag : Kind → ℕ
-kindTag frame = videoTag
-kindTag sound = audioTag
-
+-- the record of a chunk of a kind at a position
 abbrev pub entry : Kind → Position → ChunkIndexEntry
 entry kind p = record { tag = kindTag kind; position = p }
 

@@ -1,4 +1,4 @@
--- `build_chunk_index` and the summary. Assumes nothing.
+-- `build_chunk_index`. Assumes nothing.
 use Prim.Native.Nat.{ℕ, _+_, _*_, min}
 use mathlib.Core.Bool.{Bool, true, cond}
 use mathlib.Core.List.{List, [], _∷_}
@@ -12,19 +12,20 @@ use Rattle.chunk.specs.Chunk.{advanceTotal}
 use Rattle.prelude.specs.Layout.{preludeLen}
 use Rattle.demuxer.specs.Position.{start}
 use Rattle.demuxer.specs.declared.position.Position.{Position}
-use Rattle.chunk_index.specs.Walk.{Kind, frame, sound, Stop, ranOut, trailer, unknownTag, Walk, stop, chunk, walk, past}
+use Rattle.walk.specs.Walk.{Walk, stop, chunk, past, fileWalk}
+use Rattle.walk.specs.declared.Kind.{Kind}
+use Rattle.walk.specs.declared.Kind.the-variants.{Frame, Sound}
+use Rattle.walk.specs.declared.Stop.{Stop}
+use Rattle.walk.specs.declared.Stop.the-variants.{RanOut, Trailer, UnknownTag}
 use Rattle.chunk_index.specs.Entry.{entryLen, entry, tableBytes}
 use Rattle.chunk_index.specs.declared.entry.ChunkIndexEntry.{ChunkIndexEntry}
-use Rattle.chunk_index.specs.declared.index.ChunkCounts.{ChunkCounts}
-use Rattle.chunk_index.specs.declared.index.SummaryResult.{SummaryResult}
-use Rattle.chunk_index.specs.declared.index.SummaryResult.the-variants as summary
 use Rattle.chunk_index.specs.declared.index.IndexResult.{IndexResult}
 use Rattle.chunk_index.specs.declared.index.IndexResult.the-variants as index
 
 -- 01: "A frame is recorded though its body is cut; sound only if min(8, length) payload bytes are there."
 abbrev pub recorded : Kind → List ℕ → ℕ → Bool
-recorded frame payload missing = true
-recorded sound payload missing = leb (min 8 (length payload + missing)) (length payload)
+recorded Frame payload missing = true
+recorded Sound payload missing = leb (min 8 (length payload + missing)) (length payload)
 
 -- the records that a walk makes from a position
 unfoldable pub records : Position → Walk → List ChunkIndexEntry
@@ -34,18 +35,14 @@ records p (chunk kind payload missing rest) =
 
 -- "Tag known? 31, place the chunk's offset."
 abbrev pub stopKnown : ℕ → Stop → Answer Unit
-stopKnown at ranOut = accepted tt
-stopKnown at (trailer n) = accepted tt
-stopKnown at unknownTag = refused (numbered 31 at)
+stopKnown at RanOut = accepted tt
+stopKnown at (Trailer n) = accepted tt
+stopKnown at UnknownTag = refused (numbered 31 at)
 
 unfoldable pub tagsKnown : ℕ → Walk → Answer Unit
 tagsKnown at (stop s) = stopKnown at s
 tagsKnown at (chunk kind payload missing rest) =
     cond (recorded kind payload missing) (tagsKnown (at + advanceTotal (length payload + missing)) rest) (accepted tt)
-
--- "walks from 316"
-abbrev pub fileWalk : List ℕ → Walk
-fileWalk file = walk file preludeLen
 
 -- "File limit, 10, comes first."
 unfoldable pub indexOf : List ℕ → Answer (List ChunkIndexEntry)
@@ -68,23 +65,3 @@ buildOf file table =
 abbrev pub saidIndex : IndexResult → Answer ℕ
 saidIndex (index.Ok n) = accepted n
 saidIndex (index.Err e) = refused (refusalOf e)
-
--- of frames and blocks, how many
-abbrev pub counted : Kind → ChunkCounts → ChunkCounts
-counted frame s = record { frames = s .frames + 1; blocks = s .blocks }
-counted sound s = record { frames = s .frames; blocks = s .blocks + 1 }
-
--- "frames and blocks as counts of the records its index walk makes", on top of s
-unfoldable pub countsFrom : ChunkCounts → Walk → ChunkCounts
-countsFrom s (stop e) = s
-countsFrom s (chunk kind payload missing rest) = cond (recorded kind payload missing) (countsFrom (counted kind s) rest) s
-
--- 01's summary: "10, then 31, as there"
-unfoldable pub summaryOf : List ℕ → Answer ChunkCounts
-summaryOf file =
-    ask (withinLimit file) 10 0
-    (andThen (tagsKnown preludeLen (fileWalk file)) (λ _. accepted (countsFrom (record { frames = 0; blocks = 0 }) (fileWalk file))))
-
-abbrev pub saidSummary : SummaryResult → Answer ChunkCounts
-saidSummary (summary.Ok s) = accepted s
-saidSummary (summary.Err e) = refused (refusalOf e)

@@ -1,6 +1,5 @@
-pub mod Walk
 pub mod Entry
 pub mod Index
+pub mod Summary
 pub mod Steps
-pub mod Chunks
 pub mod Sentences

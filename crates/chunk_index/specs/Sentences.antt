@@ -11,8 +11,9 @@ use Rattle.error.specs.Sentences.{GivesBack, RefusedBy}
 use Rattle.demuxer.specs.Sentences.{headed, longest}
 use Rattle.demuxer.specs.declared.position.Position.{Position}
 use Rattle.chunk_index.specs.Entry.{entryLen}
-use Rattle.chunk_index.specs.Index.{records, indexOf, buildOf, summaryOf}
-use Rattle.chunk_index.specs.Walk.{walk}
+use Rattle.chunk_index.specs.Index.{records, indexOf, buildOf}
+use Rattle.chunk_index.specs.Summary.{summaryOf}
+use Rattle.walk.specs.Walk.{walk}
 use Rattle.chunk_index.specs.declared.entry.ChunkIndexEntry.{ChunkIndexEntry}
 
 -- how many records have a tag

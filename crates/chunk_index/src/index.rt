@@ -1,130 +1,82 @@
-// Building the index, and the summary.
+// Building the index.
 use crate::entry::ChunkIndexEntry;
-use chunk::AUDIO_CHUNK_TAG;
-use chunk::VIDEO_CHUNK_TAG;
 use chunk::advance_total;
-use demuxer::head::Head;
-use demuxer::head::head_at;
-use demuxer::head::sample_count;
 use demuxer::position::Position;
 use demuxer::walker::Walker;
 use error::AmvError;
+use error::AmvResult;
+use walk::ChunkAt;
+use walk::Kind;
+use walk::Step;
+use walk::Stop;
+use walk::step_at;
 ghost use mathlib.Core.Path.{_≡_};
-ghost use Prim.Native.Nat.{_+_, _*_, _≤_};
+ghost use Prim.Native.Nat.{_*_, _≤_};
 ghost use lib.ListN.{length};
 ghost use Rattle.fields.specs.File.{fileLimit};
 ghost use Rattle.fields.specs.Le.{put};
 ghost use Rattle.error.specs.Answer.{accepted, andThen};
+ghost use Rattle.error.specs.Refusal.{said};
 ghost use Rattle.prelude.specs.Layout.{preludeLen};
 ghost use Rattle.demuxer.specs.Position.{start};
+ghost use Rattle.walk.specs.Walk.{fileWalk};
 ghost use Rattle.chunk_index.specs.Entry.{entryLen, tableBytes};
-ghost use Rattle.chunk_index.specs.Steps.{onHeadIndexed, indexedAt, stepAt, Walked, NextWalked};
-ghost use Rattle.demuxer.specs.declared.head.Head.the-variants as head;
-ghost use Rattle.chunk_index.specs.Index.{fileWalk, records, countsFrom, tagsKnown, buildOf, saidIndex, summaryOf, saidSummary};
+ghost use Rattle.chunk_index.specs.Index.{stopKnown, records, tagsKnown, buildOf, saidIndex};
+ghost use Rattle.chunk_index.specs.Steps.{recordedAt};
 
-pub struct ChunkCounts {
-    pub frames: u64,
-    pub blocks: u64,
-}
-
-pub enum SummaryResult {
-    Ok(ChunkCounts),
-    Err(AmvError),
-}
-
+// The number of records, or a refusal.
 pub enum IndexResult {
     Ok(usize),
     Err(AmvError),
 }
 
-// What the index walk does at an offset: it stops, meets an unknown tag, or records a chunk of a length.
-enum Indexed {
-    Stop,
-    Unknown,
-    Frame(u32),
-    Sound(u32),
-}
-
-// The record of a position, and the position of the next one.
-enum Step {
-    Done,
-    Record(ChunkIndexEntry, Position),
-}
-
-fn sound_at(file: &[u8], at: usize, size: u32) -> Indexed
-    requires { ⌜ at + 8 ≤ length (now file) ⌝ }
-    ensures { λ r. ⌜ r ≡ onHeadIndexed (now (file .entry)) at (head.Audio size) ⌝ }
+// Whether a chunk of the walk gets a record: a frame always, sound where min(8, length) bytes of its payload are there.
+pub fn recorded(chunk: ChunkAt) -> bool
+    ensures { λ r. ⌜ r ≡ recordedAt chunk ⌝ }
 {
-    let needed = fields::min(8, size as u64) as usize;
-    if file.len() - (at + 8) < needed {
-        return Indexed::Stop;
+    let kind = chunk.kind;
+    match kind {
+        Kind::Frame => true,
+        Kind::Sound => fields::min(8, chunk.size as u64) + chunk.missing as u64
+            <= chunk.size as u64,
     }
-    Indexed::Sound(size)
 }
 
-fn indexed_at(file: &[u8], at: usize) -> Indexed
-    ensures { λ r. ⌜ r ≡ indexedAt (now (file .entry)) at ⌝ }
+// Refuses a walk that stops at an unknown tag: 31, at the chunk.
+pub fn ask_known(stop: Stop, at: u64) -> AmvResult
+    ensures { λ r. ⌜ said r ≡ stopKnown at stop ⌝ }
 {
-    match head_at(file, at) {
-        Head::Short => Indexed::Stop,
-        Head::Trailer => Indexed::Stop,
-        Head::Unknown => Indexed::Unknown,
-        Head::Video(size) => Indexed::Frame(size),
-        Head::Audio(size) => sound_at(file, at, size),
+    match stop {
+        Stop::RanOut => AmvResult::Ok,
+        Stop::Trailer(_) => AmvResult::Ok,
+        Stop::UnknownTag => AmvResult::Err(AmvError::UnknownTag(at)),
     }
 }
 
 // Counts the records of the walk. It reads headers only.
-fn count_records(file: &[u8]) -> SummaryResult
+fn count_records(file: &[u8]) -> IndexResult
     requires { ⌜ length (now file) ≤ fileLimit ⌝ }
-    ensures { λ r. ⌜ saidSummary r ≡ andThen (tagsKnown preludeLen (fileWalk (now (file .entry)))) (λ _. accepted (countsFrom (record { frames = 0; blocks = 0 }) (fileWalk (now (file .entry))))) ⌝ }
+    ensures { λ r. ⌜ saidIndex r ≡ andThen (tagsKnown preludeLen (fileWalk (now (file .entry)))) (λ _. accepted (length (records start (fileWalk (now (file .entry)))))) ⌝ }
 {
     let mut at: usize = Walker::START as usize;
-    let mut frames: u64 = 0;
-    let mut blocks: u64 = 0;
+    let mut count: usize = 0;
     loop {
-        match indexed_at(file, at) {
-            Indexed::Stop => {
-                return SummaryResult::Ok(ChunkCounts { frames, blocks });
+        match step_at(file, at) {
+            Step::Stop(stop) => match ask_known(stop, at as u64) {
+                AmvResult::Ok => {
+                    return IndexResult::Ok(count);
+                }
+                AmvResult::Err(e) => {
+                    return IndexResult::Err(e);
+                }
+            },
+            Step::Chunk(chunk) => {
+                if !recorded(chunk) {
+                    return IndexResult::Ok(count);
+                }
+                count += 1;
+                at += advance_total(chunk.size) as usize;
             }
-            Indexed::Unknown => {
-                return SummaryResult::Err(AmvError::UnknownTag(at as u64));
-            }
-            Indexed::Frame(size) => {
-                frames += 1;
-                at += advance_total(size) as usize;
-            }
-            Indexed::Sound(size) => {
-                blocks += 1;
-                at += advance_total(size) as usize;
-            }
-        }
-    }
-}
-
-fn step_at(file: &[u8], position: Position) -> Step
-    requires { ⌜ length (now file) ≤ fileLimit ⌝ }
-    requires { ⌜ Walked position ⌝ }
-    ensures { λ r. ⌜ (r ≡ stepAt (now (file .entry)) position) × NextWalked r ⌝ }
-{
-    let at = position.cursor as usize;
-    match indexed_at(file, at) {
-        Indexed::Stop => Step::Done,
-        Indexed::Unknown => Step::Done,
-        Indexed::Frame(size) => {
-            let entry = ChunkIndexEntry {
-                tag: VIDEO_CHUNK_TAG,
-                position,
-            };
-            Step::Record(entry, position.past_frame(size))
-        }
-        Indexed::Sound(size) => {
-            let entry = ChunkIndexEntry {
-                tag: AUDIO_CHUNK_TAG,
-                position,
-            };
-            let count = sample_count(file, at + 8, size);
-            Step::Record(entry, position.past_sound(size, count))
         }
     }
 }
@@ -138,30 +90,25 @@ fn write_records(file: &[u8], table: &mut [u8])
     let mut position = Position::new();
     let mut to: usize = 0;
     loop {
-        match step_at(file, position) {
-            Step::Done => {
-                return;
-            }
-            Step::Record(entry, next) => {
-                entry.write(table, to);
-                position = next;
-                to += ChunkIndexEntry::LEN;
-            }
+        let Step::Chunk(chunk) = step_at(file, position.cursor as usize) else {
+            return;
+        };
+        if !recorded(chunk) {
+            return;
         }
+        let kind = chunk.kind;
+        let entry = ChunkIndexEntry {
+            tag: kind.tag(),
+            position,
+        };
+        entry.write(table, to);
+        position = chunk.past(file, position);
+        to += ChunkIndexEntry::LEN;
     }
 }
 
-pub fn summary(file: &[u8]) -> SummaryResult
-    ensures { λ r. ⌜ saidSummary r ≡ summaryOf (now (file .entry)) ⌝ }
-{
-    if fields::file::within_limit(file) {
-        count_records(file)
-    } else {
-        SummaryResult::Err(AmvError::FileTooLong)
-    }
-}
-
-// Two passes, so that a table without room for all records is not touched.
+// Writes the records of a file's chunks to a table and answers their count; bytes after them stay. Refuses a file over the limit (10), an
+// unknown tag (31, at the chunk) and a table without room (40). Two passes, so that a table without room for all records is not touched.
 pub fn build_chunk_index(file: &[u8], table: &mut [u8]) -> IndexResult
     ensures { λ r. ⌜ (saidIndex r ≡ buildOf (now (file .entry)) (now (table .entry)) .answer) × (now (table .exit) ≡ buildOf (now (file .entry)) (now (table .entry)) .table) ⌝ }
 {
@@ -169,9 +116,8 @@ pub fn build_chunk_index(file: &[u8], table: &mut [u8]) -> IndexResult
         return IndexResult::Err(AmvError::FileTooLong);
     }
     match count_records(file) {
-        SummaryResult::Err(e) => IndexResult::Err(e),
-        SummaryResult::Ok(counts) => {
-            let count = (counts.frames + counts.blocks) as usize;
+        IndexResult::Err(e) => IndexResult::Err(e),
+        IndexResult::Ok(count) => {
             if table.len() / ChunkIndexEntry::LEN < count {
                 return IndexResult::Err(AmvError::TableTooShort);
             }

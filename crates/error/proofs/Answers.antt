@@ -36,6 +36,11 @@ module _ {B : Type 0} where
   then-passed (accepted u) rest e = (refl, e)
   then-passed (refused r) rest e = never (sym e)
 
+  pub then-accepted : {A : Type 0} (x : Answer A) (rest : A → Answer B) {b : B} → andThen x rest ≡ accepted b
+      → (a : A) × (x ≡ accepted a) × (rest a ≡ accepted b)
+  then-accepted (accepted a) rest e = (a, refl, e)
+  then-accepted (refused r) rest e = never (sym e)
+
   -- and each question
   pub ask-passed : (b : Bool) (number place : ℕ) (x : Answer B) {y : B} → ask b number place x ≡ accepted y → (b ≡ true) × (x ≡ accepted y)
   ask-passed true n p x e = (refl, e)

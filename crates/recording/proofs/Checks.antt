@@ -15,10 +15,11 @@ use Rattle.chunk.specs.declared.ChunkKind.{ChunkKind}
 use Rattle.chunk.specs.declared.ChunkKind.the-variants.{Video, Audio, Other}
 use Rattle.chunk.proofs.Chunks.{kind-video, kind-audio}
 use Rattle.error.specs.Answer.{Answer, accepted, refused, andThen}
-use Rattle.error.proofs.Answers.{ask-passed, both}
+use Rattle.error.proofs.Answers.{never, then-accepted, ask-passed, both}
 use Rattle.fields.specs.File.{fileLimit, withinLimit}
 use Rattle.fields.specs.Le.{le, leBytes, Bytes}
 use Rattle.fields.proofs.Laws.{le-lt, leBytes-le}
+use Rattle.prelude.specs.Layout.{preludeLen}
 use Rattle.prelude.specs.Prelude.{parseOf, validatedOf, strictOf}
 use Rattle.prelude.specs.declared.prelude.AmvPrelude.{AmvPrelude}
 use Rattle.prelude.proofs.Layouts.{parsed-length}
@@ -29,12 +30,16 @@ use Rattle.demuxer.specs.Read.{payloadAt}
 use Rattle.demuxer.specs.declared.head.Head.{Head}
 use Rattle.demuxer.specs.declared.head.Head.the-variants as head
 use Rattle.demuxer.specs.declared.position.Position.{Position}
-use Rattle.chunk_index.specs.Walk.{Kind, frame, sound, Walk, stop, chunk, ranOut, trailer, onHead, walkFor, walk, past}
-use Rattle.chunk_index.specs.Chunks.{Chunk, chunkOf, chunkBytes, chunksBytes, Lengths, walkOf}
-use Rattle.chunk_index.specs.Entry.{kindTag}
-use Rattle.chunk_index.proofs.Chunked.{chunks-walked}
-use Rattle.recording.specs.Check.{passes, tagsOf, checkFrom, checkOf, chunkTags, totalsOf, CheckIsGrammar}
-use Rattle.recording.specs.declared.check.Totals.{Totals}
+use Rattle.walk.specs.Walk.{Walk, stop, onHead, stepAt, onStep, walkFor, walk, fileWalk, past}
+use Rattle.walk.specs.declared.Kind.{Kind}
+use Rattle.walk.specs.declared.Kind.the-variants.{Frame, Sound}
+use Rattle.walk.specs.declared.Stop.the-variants.{RanOut, Trailer}
+use Rattle.walk.specs.Chunks.{Chunk, chunkOf, chunkBytes, chunksBytes, Lengths, walkOf}
+use Rattle.walk.specs.Walk.{kindTag}
+use Rattle.walk.proofs.Chunked.{chunks-walked}
+use Rattle.finished.specs.Check.{passes, tagsOf, checkFrom, allPaired, checkChunks, checkOf}
+use Rattle.recording.specs.Check.{chunkTags, totalsOf, CheckIsGrammar}
+use Rattle.finished.specs.declared.Totals.{Totals}
 use Rattle.recording.specs.Drain.{frames, samples, blocks}
 use Rattle.recording.specs.Grammar.{Finished}
 use Rattle.recording.proofs.Positions.{length-chunk}
@@ -48,11 +53,11 @@ within file h = le-leb (length file) fileLimit h
 pub finished-strict : (file : List ℕ) (cs : List Chunk) (f : Finished file cs) → strictOf file ≡ accepted (f .passes .0)
 finished-strict file cs f =
     sym (strict-local file (within file (f .fits)))
-    ∙ ap strictOf (ap (take 316) (f .is) ∙ take-at (f .prelude) (chunksBytes cs ++ trailerBytes) 316 (f .whole))
+    ∙ ap strictOf (ap (take preludeLen) (f .is) ∙ take-at (f .prelude) (chunksBytes cs ++ trailerBytes) preludeLen (f .whole))
     ∙ f .passes .1
 
 -- and its walk is that of its chunks
-pub finished-walk : (file : List ℕ) (cs : List Chunk) → Finished file cs → walk file 316 ≡ walkOf cs 0
+pub finished-walk : (file : List ℕ) (cs : List Chunk) → Finished file cs → fileWalk file ≡ walkOf cs 0
 finished-walk file cs f =
     let e : file ≡ f .prelude ++ (chunksBytes cs ++ (trailerBytes ++ [])) = f .is ∙ ap (λ (t : List ℕ). f .prelude ++ (chunksBytes cs ++ t)) (sym (append-nil trailerBytes)) in
     let n = sym (f .whole) in
@@ -80,31 +85,27 @@ same-totals f b s t q = λ i. record { frames = f i; blocks = b i; samples = s i
 checked : (p : Position) (paired : Bool) (cs : List Chunk) → checkFrom p paired (walkOf cs 0) ≡ accepted (totalsFrom p paired cs)
 unfolding checkFrom walkOf frames samples blocks chunksBytes
 checked p paired [] = ap accepted (same-totals (omega arith) (omega arith) (omega arith) (omega arith) refl)
-checked p paired (chunkOf frame payload ∷ cs) =
-    checked (past p frame payload 0) paired cs
+checked p paired (chunkOf Frame payload ∷ cs) =
+    checked (past p Frame payload 0) paired cs
     ∙ ap accepted
-    (same-totals (omega arith) (omega arith) (omega arith) (omega (arith, length-append (chunkBytes (chunkOf frame payload)) (chunksBytes cs), length-chunk frame payload)) refl)
-checked p paired (chunkOf sound payload ∷ cs) =
-    checked (past p sound payload 0) paired cs
+    (same-totals (omega arith) (omega arith) (omega arith) (omega (arith, length-append (chunkBytes (chunkOf Frame payload)) (chunksBytes cs), length-chunk Frame payload)) refl)
+checked p paired (chunkOf Sound payload ∷ cs) =
+    checked (past p Sound payload 0) paired cs
     ∙ ap accepted
-    (same-totals (omega arith) (omega arith) (omega arith) (omega (arith, length-append (chunkBytes (chunkOf sound payload)) (chunksBytes cs), length-chunk sound payload)) refl)
+    (same-totals (omega arith) (omega arith) (omega arith) (omega (arith, length-append (chunkBytes (chunkOf Sound payload)) (chunksBytes cs), length-chunk Sound payload)) refl)
 
 pub check-accepts : (file : List ℕ) (cs : List Chunk) → Finished file cs → checkOf file ≡ accepted (totalsOf cs)
 unfolding checkOf
 check-accepts file cs f =
     let w = finished-walk file cs f in
-    let t : tagsOf (walk file 316) ≡ chunkTags cs = ap tagsOf w ∙ tags-walked cs 0 in
+    let t : tagsOf (fileWalk file) ≡ chunkTags cs = ap tagsOf w ∙ tags-walked cs 0 in
     let s = finished-strict file cs f in
-    ap (λ (x : Answer AmvPrelude). andThen x (λ _. checkFrom start (passes (interleave (tagsOf (walk file 316)))) (walk file 316))) s
+    ap (λ (x : Answer AmvPrelude). andThen x (λ _. checkChunks file)) s
     ∙ (λ i. checkFrom start (passes (interleave (t i))) (w i))
     ∙ checked start (passes (interleave (chunkTags cs))) cs
     ∙ ap accepted (same-totals (zero-add (frames cs)) (zero-add (blocks cs)) (zero-add (samples cs)) refl refl)
 
 -- ---- what is accepted is finished
-
-then-accepted : {A B : Type 0} (x : Answer A) (rest : A → Answer B) {b : B} → andThen x rest ≡ accepted b → (a : A) × (x ≡ accepted a) × (rest a ≡ accepted b)
-then-accepted (accepted a) rest e = (a, refl, e)
-then-accepted (refused r) rest e = let z : _≡_ {A = ℕ} 0 1 = cc in absurd (omega arith)
 
 -- the header that was read, as it stands in the file
 record Headed (file : List ℕ) (at tag size : ℕ) : Type 0 where
@@ -195,46 +196,46 @@ trailer-last file at b h z =
 -- by what stands at the offset, where the rest is known
 on-accepted : (file : List ℕ) (at : ℕ) (p : Position) (paired : Bool) (t : Totals) (w : ℕ → Walk)
     → ((next : ℕ) (q : Position) → checkFrom q paired (w next) ≡ accepted t → Chunked file next) → Bytes file
-    → (h : Head) → Heads file at h → checkFrom p paired (onHead file at w h) ≡ accepted t → Chunked file at
+    → (h : Head) → Heads file at h → checkFrom p paired (onStep file at w (onHead file at h)) ≡ accepted t → Chunked file at
 unfolding checkFrom Heads
-on-accepted file at p paired t w rest b head.Short d e = let z : _≡_ {A = ℕ} 0 1 = cc in absurd (omega arith)
+on-accepted file at p paired t w rest b head.Short d e = never (sym e)
 on-accepted file at p paired t w rest b head.Trailer d e =
     let a = ask-passed (eqb (length file - (at + 8)) 0) 61 (p .cursor) _ e in
     trailer-last file at b d (eqb-true (length file - (at + 8)) 0 (a .0))
-on-accepted file at p paired t w rest b head.Unknown d e = let z : _≡_ {A = ℕ} 0 1 = cc in absurd (omega arith)
+on-accepted file at p paired t w rest b head.Unknown d e = never (sym e)
 on-accepted file at p paired t w rest b (head.Video size) d e =
     let m : ℕ = size - length (payloadAt file at size) in
     let a = ask-passed (eqb m 0) 60 (p .cursor) _ e in
-    chunk-more file at size frame b d (eqb-true m 0 (a .0)) (rest (at + (8 + size)) (past p frame (payloadAt file at size) m) (a .1))
+    chunk-more file at size Frame b d (eqb-true m 0 (a .0)) (rest (at + (8 + size)) (past p Frame (payloadAt file at size) m) (a .1))
 on-accepted file at p paired t w rest b (head.Audio size) d e =
     let m : ℕ = size - length (payloadAt file at size) in
     let a = ask-passed (eqb m 0) 60 (p .cursor) _ e in
-    chunk-more file at size sound b d (eqb-true m 0 (a .0)) (rest (at + (8 + size)) (past p sound (payloadAt file at size) m) (a .1))
+    chunk-more file at size Sound b d (eqb-true m 0 (a .0)) (rest (at + (8 + size)) (past p Sound (payloadAt file at size) m) (a .1))
 
 accepted-chunks : (n : ℕ) (file : List ℕ) (at : ℕ) (p : Position) (paired : Bool) (t : Totals) → Bytes file
     → checkFrom p paired (walkFor n file at) ≡ accepted t → Chunked file at
-unfolding walkFor
+unfolding walkFor stepAt
 accepted-chunks zero file at p paired t b e = ends e
   where
-    ends : checkFrom p paired (stop ranOut) ≡ accepted t → Chunked file at
-    ends x = unfold checkFrom in (let z : _≡_ {A = ℕ} 0 1 = cc in absurd (omega arith))
+    ends : checkFrom p paired (stop RanOut) ≡ accepted t → Chunked file at
+    ends x = unfold checkFrom in never (sym x)
 accepted-chunks (suc n) file at p paired t b e =
     on-accepted file at p paired t (walkFor n file) (λ next q x. accepted-chunks n file next q paired t b x) b (headAt file at) (headed file at) e
 
 pub check-only : (file : List ℕ) → Bytes file → (t : Totals) → checkOf file ≡ accepted t → (cs : List Chunk) × Finished file cs
 unfolding checkOf walk strictOf parseOf
 check-only file b t e =
-    let s = then-accepted (strictOf file) (λ _. checkFrom start (passes (interleave (tagsOf (walk file 316)))) (walk file 316)) e in
+    let s = then-accepted (strictOf file) (λ _. checkChunks file) e in
     let q = then-accepted (parseOf file) (λ p. validatedOf p file) (s .1) in
-    let l : 316 ≤ length file = parsed-length file (q .1) in
+    let l : preludeLen ≤ length file = parsed-length file (q .1) in
     let f : withinLimit file ≡ true = ask-passed (withinLimit file) 10 0 _ (q .1) .0 in
-    let c = accepted-chunks (length file) file 316 start (passes (interleave (tagsOf (walk file 316)))) t b (s .2) in (
+    let c = accepted-chunks (length file) file preludeLen start (allPaired file) t b (s .2) in (
       c .chunks,
       record {
-        prelude = take 316 file;
+        prelude = take preludeLen file;
         passes = (s .0, strict-local file f ∙ s .1);
         whole = simp length-take (omega arith);
-        is = sym (take-append-drop 316 file) ∙ ap (λ (x : List ℕ). take 316 file ++ x) (c .are);
+        is = sym (take-append-drop preludeLen file) ∙ ap (λ (x : List ℕ). take preludeLen file ++ x) (c .are);
         fits = leb-true (length file) fileLimit f;
         lengths = c .held;
       },
@@ -242,16 +243,3 @@ check-only file b t e =
 
 pub check-is-grammar : CheckIsGrammar
 check-is-grammar = record { accepts = check-accepts; only = check-only }
-
--- what the strict parse accepts is within the limit
-pub strict-within : (file : List ℕ) (p : AmvPrelude) → strictOf file ≡ accepted p → length file ≤ fileLimit
-unfolding strictOf parseOf
-strict-within file p e =
-    let q = then-accepted (parseOf file) (λ x. validatedOf x file) e in
-    leb-true (length file) fileLimit (ask-passed (withinLimit file) 10 0 _ (q .1) .0)
-
--- the check by the answer of the strict parse
-pub check-after : (file : List ℕ) (x : Answer AmvPrelude) → strictOf file ≡ x
-    → checkOf file ≡ andThen x (λ _. checkFrom start (passes (interleave (tagsOf (walk file 316)))) (walk file 316))
-unfolding checkOf
-check-after file x e = ap (λ (y : Answer AmvPrelude). andThen y (λ _. checkFrom start (passes (interleave (tagsOf (walk file 316)))) (walk file 316))) e

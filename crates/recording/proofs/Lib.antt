@@ -1,14 +1,11 @@
 pub mod Checks
-pub mod CheckWalks
 pub mod Positions
 pub mod Tables
 pub mod Seeks
 pub mod Readings
 pub mod Lists
-pub mod CheckParts
 pub mod Writes
 pub mod Numbers
 pub mod Runs
 pub mod ByValue
 pub mod Together
-pub mod Sentences

@@ -11,6 +11,7 @@ use borrow.Author.Tests.{eq-eqb, leb-true}
 use lib.Dec.{leb}
 use lib.IntN.{ℤ}
 use lib.ListN.{length, take, drop, getElem?, length-append, drop-of-length-le}
+use Rattle.prelude.specs.Layout.{preludeLen}
 use Rattle.chunk.specs.Chunk.{trailerBytes}
 use Rattle.error.specs.Answer.{Answer, accepted, refused, numbered}
 use Rattle.fields.specs.Le.{leBytes, Bytes}
@@ -21,8 +22,8 @@ use Rattle.demuxer.specs.Read.{ReadAnswer, packet, End, fresh, atTrailer, advan
 use Rattle.demuxer.specs.declared.position.Position.{Position}
 use Rattle.demuxer.specs.declared.walker.Walker.{Walker}
 use Rattle.demuxer.proofs.Ranges.{in-range}
-use Rattle.chunk_index.specs.Chunks.{Chunk, chunkOf, chunkBytes, chunksBytes}
-use Rattle.chunk_index.specs.Entry.{tableBytes, entriesOf}
+use Rattle.walk.specs.Chunks.{Chunk, chunkOf, chunkBytes, chunksBytes}
+use Rattle.chunk_index.specs.Entry.{entryLen, tableBytes, entriesOf}
 use Rattle.chunk_index.specs.declared.entry.ChunkIndexEntry.{ChunkIndexEntry}
 use Rattle.seek.specs.Seek.{seekQuestions, goodEntries, find, pastLast, landed, soughtFrom, seekOf}
 use Rattle.recording.specs.Grammar.{Finished}
@@ -91,7 +92,7 @@ told e = cc
 module _ (file : List ℕ) (cs : List Chunk) (all : Bytes file) (fin : Finished file cs) where
   -- ---- the file
 
-  size : length file ≡ 316 + (length (chunksBytes cs) + 8)
+  size : length file ≡ preludeLen + (length (chunksBytes cs) + 8)
   size =
       ap length (fin .is) ∙ length-append (fin .prelude) (chunksBytes cs ++ trailerBytes)
       ∙ ap₂ (λ (a b : ℕ). a + b) (fin .whole) (length-append (chunksBytes cs) trailerBytes ∙ (unfold leBytes in refl))
@@ -213,7 +214,7 @@ module _ (file : List ℕ) (cs : List Chunk) (all : Bytes file) (fin : Finished 
     pub own-marks : entriesOf table ≡ marks start cs
     own-marks = ap entriesOf own-table ∙ index-fits
 
-    own-length : length table % 24 ≡ 0
+    own-length : length table % entryLen ≡ 0
     own-length = omega (arith, ap length own-table, length-table (marks start cs))
 
     -- ---- a seek
@@ -226,7 +227,7 @@ module _ (file : List ℕ) (cs : List Chunk) (all : Bytes file) (fin : Finished 
 
     seek-asks : (w : Walker) (stream : ℕ) → leb stream 1 ≡ true → InRange (w .position) → seekQuestions table w stream ≡ accepted tt
     unfolding seekQuestions
-    seek-asks w stream s r = rw (eq-eqb (length table % 24) 0 own-length, s, own-marks, all-fine, in-range (w .position) r)
+    seek-asks w stream s r = rw (eq-eqb (length table % entryLen) 0 own-length, s, own-marks, all-fine, in-range (w .position) r)
 
     seek-lands : (w : Walker) (stream : ℕ) (request : ℤ) → leb stream 1 ≡ true → InRange (w .position)
         → seekOf table w stream request ≡ landed (marks start cs) w stream (find stream request (marks start cs))
@@ -238,7 +239,7 @@ module _ (file : List ℕ) (cs : List Chunk) (all : Bytes file) (fin : Finished 
     seek-refused : (w : Walker) (stream : ℕ) (request : ℤ) → leb stream 1 ≡ false
         → seekOf table w stream request ≡ record { answer = refused (numbered 42 0); walker = w }
     unfolding seekOf seekQuestions
-    seek-refused w stream request s = rw (eq-eqb (length table % 24) 0 own-length, s)
+    seek-refused w stream request s = rw (eq-eqb (length table % entryLen) 0 own-length, s)
 
     land-turn : (w : Walker) (stream : ℕ) (request : ℤ) → leb stream 1 ≡ true → InRange (w .position) → Finds stream request start cs
         → Turn cs (seeking w stream request) (seekStep stream request)

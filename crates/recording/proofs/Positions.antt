@@ -16,20 +16,21 @@ use Rattle.demuxer.specs.Packet.{Shown, durationOf, ticks}
 use Rattle.demuxer.specs.Position.{pastFrame, pastSound}
 use Rattle.demuxer.proofs.Bodies.{count-is}
 use Rattle.demuxer.specs.declared.position.Position.{Position}
-use Rattle.chunk_index.specs.Walk.{Kind, frame, sound}
-use Rattle.chunk_index.specs.Chunks.{Chunk, chunkOf, chunkBytes, chunksBytes, Lengths}
-use Rattle.chunk_index.specs.Entry.{kindTag}
+use Rattle.walk.specs.declared.Kind.{Kind}
+use Rattle.walk.specs.declared.Kind.the-variants.{Frame, Sound}
+use Rattle.walk.specs.Chunks.{Chunk, chunkOf, chunkBytes, chunksBytes, Lengths}
+use Rattle.walk.specs.Walk.{kindTag}
 use Rattle.recording.specs.Drain.{drainFrom, frames, samples, blocks}
 
 -- past a whole chunk
 abbrev pub passed : Position → Kind → List ℕ → Position
-passed p frame payload = pastFrame p (length payload)
-passed p sound payload = pastSound p (length payload) (countOf payload)
+passed p Frame payload = pastFrame p (length payload)
+passed p Sound payload = pastSound p (length payload) (countOf payload)
 
 -- the packet of a chunk that stands at a position
 abbrev pub shownAt : Position → Kind → List ℕ → Shown
-shownAt p frame payload = record { stream = 0; payload = payload; stamp = p .frames .0; duration = some 1 }
-shownAt p sound payload = record { stream = 1; payload = payload; stamp = p .samples .0; duration = ticks (durationOf (countOf payload)) }
+shownAt p Frame payload = record { stream = 0; payload = payload; stamp = p .frames .0; duration = some 1 }
+shownAt p Sound payload = record { stream = 1; payload = payload; stamp = p .samples .0; duration = ticks (durationOf (countOf payload)) }
 
 -- past k chunks
 unfoldable pub positionAt : Position → ℕ → List Chunk → Position
@@ -44,8 +45,8 @@ drainAt p cs = drainFrom (p .frames .0) (p .samples .0) cs
 pub drain-cons : (p : Position) (kind : Kind) (payload : List ℕ) (cs : List Chunk)
     → drainAt p (chunkOf kind payload ∷ cs) ≡ shownAt p kind payload ∷ drainAt (passed p kind payload) cs
 unfolding drainFrom
-drain-cons p frame payload cs = refl
-drain-cons p sound payload cs = refl
+drain-cons p Frame payload cs = refl
+drain-cons p Sound payload cs = refl
 
 pub length-drain : (p : Position) (cs : List Chunk) → length (drainAt p cs) ≡ length cs
 length-drain p [] = unfold drainFrom in refl
@@ -101,10 +102,10 @@ pub counted : (p : Position) (k : ℕ) (cs : List Chunk) → Counted p (position
 unfolding positionAt chunksBytes frames samples blocks
 counted p zero cs = omega arith
 counted p (suc k) [] = omega arith
-counted p (suc k) (chunkOf frame payload ∷ cs) =
-    omega (arith, counted (passed p frame payload) k cs, length-append (chunkBytes (chunkOf frame payload)) (chunksBytes (take k cs)), length-chunk frame payload)
-counted p (suc k) (chunkOf sound payload ∷ cs) =
-    omega (arith, counted (passed p sound payload) k cs, length-append (chunkBytes (chunkOf sound payload)) (chunksBytes (take k cs)), length-chunk sound payload)
+counted p (suc k) (chunkOf Frame payload ∷ cs) =
+    omega (arith, counted (passed p Frame payload) k cs, length-append (chunkBytes (chunkOf Frame payload)) (chunksBytes (take k cs)), length-chunk Frame payload)
+counted p (suc k) (chunkOf Sound payload ∷ cs) =
+    omega (arith, counted (passed p Sound payload) k cs, length-append (chunkBytes (chunkOf Sound payload)) (chunksBytes (take k cs)), length-chunk Sound payload)
 
 -- ---- bounds
 
@@ -130,8 +131,8 @@ pub record Bounded (p q : Position) (n : ℕ) : Type 0 where
 
 -- one chunk
 pub stepped : (p : Position) (kind : Kind) (payload : List ℕ) → Bytes payload → Bounded p (passed p kind payload) (8 + length payload)
-stepped p frame payload b = omega arith
-stepped p sound payload b = omega (arith, count-le payload b)
+stepped p Frame payload b = omega arith
+stepped p Sound payload b = omega (arith, count-le payload b)
 
 pub bounded : (p : Position) (k : ℕ) (cs : List Chunk) → Bytes (chunksBytes cs) → Bounded p (positionAt p k cs) (length (chunksBytes cs))
 unfolding positionAt chunksBytes

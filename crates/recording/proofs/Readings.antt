@@ -12,9 +12,10 @@ use Rattle.demuxer.specs.Sentences.{headed}
 use Rattle.demuxer.specs.declared.walker.Walker.{Walker}
 use Rattle.demuxer.proofs.Ranges.{range-facts}
 use Rattle.demuxer.proofs.Sentences.{frame-read, sound-read, read-sentences}
-use Rattle.chunk_index.specs.Walk.{Kind, frame, sound}
-use Rattle.chunk_index.specs.Chunks.{chunkOf, chunkBytes}
-use Rattle.chunk_index.specs.Entry.{kindTag}
+use Rattle.walk.specs.declared.Kind.{Kind}
+use Rattle.walk.specs.declared.Kind.the-variants.{Frame, Sound}
+use Rattle.walk.specs.Chunks.{chunkOf, chunkBytes}
+use Rattle.walk.specs.Walk.{kindTag}
 use Rattle.recording.proofs.Positions.{passed, shownAt}
 
 module _ (file : List ℕ) (w : Walker) (xs : List ℕ) (fits : length file ≤ fileLimit) (range : inRange (w .position) ≡ true) where
@@ -29,8 +30,8 @@ module _ (file : List ℕ) (w : Walker) (xs : List ℕ) (fits : length file ≤ 
     where
       on : (k : Kind) → file ≡ xs ++ headed (kindTag k) (length payload) (payload ++ ys)
           → readOf file w ≡ record { answer = packet (shownAt (w .position) k payload); walker = advanced w (passed (w .position) k payload) }
-      on frame e = frame-read file payload ys w (record { within = fits; range = facts; before = xs; cursor = at; is = e }) going small
-      on sound e = sound-read file payload ys w (record { within = fits; range = facts; before = xs; cursor = at; is = e }) going small
+      on Frame e = frame-read file payload ys w (record { within = fits; range = facts; before = xs; cursor = at; is = e }) going small
+      on Sound e = sound-read file payload ys w (record { within = fits; range = facts; before = xs; cursor = at; is = e }) going small
 
   pub read-trailer : w .end ≡ false → w .position .cursor ≡ length xs → file ≡ xs ++ trailerBytes → readOf file w ≡ record { answer = End; walker = atTrailer w }
   read-trailer going at is =

@@ -17,9 +17,10 @@ use Rattle.fields.proofs.Laws.{bytes-right}
 use Rattle.demuxer.specs.Packet.{Shown}
 use Rattle.demuxer.specs.Position.{countLimit, InRange}
 use Rattle.demuxer.specs.declared.position.Position.{Position}
-use Rattle.chunk_index.specs.Walk.{Kind, frame, sound}
-use Rattle.chunk_index.specs.Chunks.{Chunk, chunkOf, chunkBytes, chunksBytes}
-use Rattle.chunk_index.specs.Entry.{entry}
+use Rattle.walk.specs.declared.Kind.{Kind}
+use Rattle.walk.specs.declared.Kind.the-variants.{Frame, Sound}
+use Rattle.walk.specs.Chunks.{Chunk, chunkOf, chunkBytes, chunksBytes}
+use Rattle.chunk_index.specs.Entry.{entryLen, entry}
 use Rattle.seek.specs.Seek.{stampOf, goodEntry, goodEntries, reaches, find, beyond, pastLast}
 use Rattle.recording.specs.Drain.{drainFrom}
 use Rattle.recording.specs.Machine.{first}
@@ -33,19 +34,19 @@ meets stream request p = eqb (p .stream) stream && leZ request (pos (p .stamp))
 -- the test of the record and of the packet are one
 test-same : (stream : ℕ) (request : ℤ) (p : Position) (kind : Kind) (payload : List ℕ) → stream ≤ 1
     → reaches stream request (entry kind p) ≡ meets stream request (shownAt p kind payload)
-test-same zero request p frame payload h = refl
-test-same zero request p sound payload h = refl
-test-same (suc zero) request p frame payload h = refl
-test-same (suc zero) request p sound payload h = refl
+test-same zero request p Frame payload h = refl
+test-same zero request p Sound payload h = refl
+test-same (suc zero) request p Frame payload h = refl
+test-same (suc zero) request p Sound payload h = refl
 test-same (suc (suc n)) request p kind payload h = absurd (omega arith)
 
 -- and a packet that meets it has the stream's stamp
 same-stamp : (stream : ℕ) (request : ℤ) (p : Position) (kind : Kind) (payload : List ℕ) → stream ≤ 1
     → meets stream request (shownAt p kind payload) ≡ true → shownAt p kind payload .stamp ≡ stampOf stream p
-same-stamp zero request p frame payload h t = refl
-same-stamp zero request p sound payload h t = let z : _≡_ {A = ℕ} 0 1 = cc in absurd (omega arith)
-same-stamp (suc zero) request p frame payload h t = let z : _≡_ {A = ℕ} 0 1 = cc in absurd (omega arith)
-same-stamp (suc zero) request p sound payload h t = refl
+same-stamp zero request p Frame payload h t = refl
+same-stamp zero request p Sound payload h t = let z : _≡_ {A = ℕ} 0 1 = cc in absurd (omega arith)
+same-stamp (suc zero) request p Frame payload h t = let z : _≡_ {A = ℕ} 0 1 = cc in absurd (omega arith)
+same-stamp (suc zero) request p Sound payload h t = refl
 same-stamp (suc (suc n)) request p kind payload h t = absurd (omega arith)
 
 first-cons : (stream : ℕ) (request : ℤ) (p : Position) (kind : Kind) (payload : List ℕ) (cs : List Chunk)
@@ -106,8 +107,8 @@ finds stream request p (chunkOf kind payload ∷ cs) h = go _ refl (finds stream
 -- ---- every record is good
 
 good-mark : (p : Position) (kind : Kind) → p .samples .0 < countLimit → goodEntry (entry kind p) ≡ true
-good-mark p frame h = lt-ltb (p .samples .0) countLimit h
-good-mark p sound h = lt-ltb (p .samples .0) countLimit h
+good-mark p Frame h = lt-ltb (p .samples .0) countLimit h
+good-mark p Sound h = lt-ltb (p .samples .0) countLimit h
 
 pub all-good : (place : ℕ) (p : Position) (cs : List Chunk) → Bytes (chunksBytes cs)
     → p .samples .0 + 268435456 * length (chunksBytes cs) < countLimit → goodEntries place (marks p cs) ≡ accepted tt
@@ -117,14 +118,14 @@ all-good place p (chunkOf kind payload ∷ cs) y h =
     let l = length-append (chunkBytes (chunkOf kind payload)) (chunksBytes cs) in
     let m = length-chunk kind payload in
     let t = stepped p kind payload (bytes-payload kind payload _ y) in
-    rw (good-mark p kind (omega arith)) (all-good (place + 24) (passed p kind payload) cs (bytes-right (chunkBytes (chunkOf kind payload)) _ y) (omega arith))
+    rw (good-mark p kind (omega arith)) (all-good (place + entryLen) (passed p kind payload) cs (bytes-right (chunkBytes (chunkOf kind payload)) _ y) (omega arith))
 
 -- ---- the position that a seek to the end leaves is in range
 
 beyond-range : (p : Position) (kind : Kind) → p .cursor + 8 ≤ countLimit → p .frames .0 < countLimit → p .samples .0 ≤ countLimit → p .blocks .0 < countLimit
     → InRange (beyond (entry kind p))
-beyond-range p frame a b c d = record { cursor-in = a; frames-in = omega arith; samples-in = c; blocks-in = omega arith }
-beyond-range p sound a b c d = record { cursor-in = a; frames-in = omega arith; samples-in = c; blocks-in = omega arith }
+beyond-range p Frame a b c d = record { cursor-in = a; frames-in = omega arith; samples-in = c; blocks-in = omega arith }
+beyond-range p Sound a b c d = record { cursor-in = a; frames-in = omega arith; samples-in = c; blocks-in = omega arith }
 
 pub last-range : (q p : Position) (cs : List Chunk) → Bytes (chunksBytes cs) → InRange q
     → p .cursor + length (chunksBytes cs) + 8 ≤ countLimit → 8 * p .frames .0 + length (chunksBytes cs) < countLimit

@@ -9,6 +9,7 @@ use borrow.Author.Tests.{le-leb}
 use lib.Dec.{leb}
 use lib.Seq.{take-at}
 use lib.ListN.{length, take, length-append}
+use Rattle.prelude.specs.Layout.{preludeLen}
 use Rattle.chunk.specs.Chunk.{trailerBytes}
 use Rattle.error.specs.Answer.{Answer, accepted, refused, ask, andThen}
 use Rattle.fields.specs.File.{fileLimit}
@@ -16,12 +17,15 @@ use Rattle.fields.specs.Le.{Bytes, put}
 use Rattle.fields.proofs.Laws.{bytes-right}
 use Rattle.demuxer.specs.Position.{start}
 use Rattle.demuxer.specs.declared.position.Position.{Position}
-use Rattle.chunk_index.specs.Walk.{Kind, frame, sound, walk, past}
-use Rattle.chunk_index.specs.Chunks.{Chunk, chunkOf, chunkBytes, chunksBytes, walkOf}
-use Rattle.chunk_index.specs.Entry.{entry, entryBytes, Small, tableBytes, entriesFrom, entriesOf}
-use Rattle.chunk_index.specs.Index.{Built, builtFrom, buildOf, recorded, records, tagsKnown, fileWalk, indexOf}
+use Rattle.walk.specs.Walk.{walk, past}
+use Rattle.walk.specs.declared.Kind.{Kind}
+use Rattle.walk.specs.declared.Kind.the-variants.{Frame, Sound}
+use Rattle.walk.specs.Chunks.{Chunk, chunkOf, chunkBytes, chunksBytes, walkOf}
+use Rattle.chunk_index.specs.Entry.{entryLen, entry, entryBytes, Small, tableBytes, entriesFrom, entriesOf}
+use Rattle.chunk_index.specs.Index.{Built, builtFrom, buildOf, recorded, records, tagsKnown, indexOf}
+use Rattle.walk.specs.Walk.{fileWalk}
 use Rattle.chunk_index.specs.declared.entry.ChunkIndexEntry.{ChunkIndexEntry}
-use Rattle.chunk_index.proofs.Chunked.{tag-held, chunks-walked}
+use Rattle.walk.proofs.Chunked.{tag-held, chunks-walked}
 use Rattle.chunk_index.proofs.Entries.{entry-back, length-entryBytes, length-table}
 use Rattle.recording.specs.Grammar.{Finished}
 use Rattle.recording.specs.Machine.{OwnIndex}
@@ -33,12 +37,12 @@ marks p [] = []
 marks p (chunkOf kind payload ∷ cs) = entry kind p ∷ marks (passed p kind payload) cs
 
 recorded-whole : (kind : Kind) (payload : List ℕ) → recorded kind payload 0 ≡ true
-recorded-whole frame payload = refl
-recorded-whole sound payload = le-leb (min 8 (length payload + 0)) (length payload) (omega arith)
+recorded-whole Frame payload = refl
+recorded-whole Sound payload = le-leb (min 8 (length payload + 0)) (length payload) (omega arith)
 
 past-whole : (p : Position) (kind : Kind) (payload : List ℕ) → past p kind payload 0 ≡ passed p kind payload
-past-whole p frame payload = rw add-zero
-past-whole p sound payload = rw add-zero
+past-whole p Frame payload = rw add-zero
+past-whole p Sound payload = rw add-zero
 
 pub records-marks : (p : Position) (cs : List Chunk) (n : ℕ) → records p (walkOf cs n) ≡ marks p cs
 unfolding marks records walkOf
@@ -60,7 +64,7 @@ finished-walk file cs fin =
 pub index-marks : (file : List ℕ) (cs : List Chunk) → Finished file cs → indexOf file ≡ accepted (marks start cs)
 unfolding indexOf
 index-marks file cs fin =
-    rw (le-leb (length file) fileLimit (fin .fits), finished-walk file cs fin, tags-known 316 cs 0, records-marks start cs 0)
+    rw (le-leb (length file) fileLimit (fin .fits), finished-walk file cs fin, tags-known preludeLen cs 0, records-marks start cs 0)
 
 -- ---- a table of records, read back
 
@@ -78,14 +82,14 @@ unfolding tableBytes entriesFrom
 entries-back xs [] f = refl
 entries-back xs (e ∷ es) f =
     let a : xs ++ (entryBytes e ++ tableBytes es) ≡ (xs ++ entryBytes e) ++ tableBytes es = sym (append-assoc xs (entryBytes e) (tableBytes es)) in
-    let n : length xs + 24 ≡ length (xs ++ entryBytes e) = omega (arith, length-append xs (entryBytes e), length-entryBytes e) in
+    let n : length xs + entryLen ≡ length (xs ++ entryBytes e) = omega (arith, length-append xs (entryBytes e), length-entryBytes e) in
     ap₂ (λ (x : ChunkIndexEntry) (l : List ChunkIndexEntry). x ∷ l)
     (entry-back xs (tableBytes es) e (f .0 .tag-fits) (f .0 .small) (f .0 .samples-fit))
     ((λ i. entriesFrom (length es) (a i) (n i)) ∙ entries-back (xs ++ entryBytes e) es (f .1))
 
 pub table-back : (es : List ChunkIndexEntry) → AllFit es → entriesOf (tableBytes es) ≡ es
 table-back es f =
-    let n : length (tableBytes es) / 24 ≡ length es = omega (arith, length-table es) in
+    let n : length (tableBytes es) / entryLen ≡ length es = omega (arith, length-table es) in
     ap (λ (k : ℕ). entriesFrom k (tableBytes es) 0) n ∙ entries-back [] es f
 
 -- every record of few enough bytes fits
@@ -109,21 +113,21 @@ abbrev builtAs : List ℕ → Bool → List ChunkIndexEntry → Built
 builtAs table t es = builtFrom table (ask t 40 0 (accepted es))
 
 built-room : (file table : List ℕ) (n : ℕ) (es : List ChunkIndexEntry) (t : Bool) → indexOf file ≡ accepted es → builtAs table t es .answer ≡ accepted n
-    → OwnIndex file (take (24 * n) (builtAs table t es .table))
+    → OwnIndex file (take (entryLen * n) (builtAs table t es .table))
 unfolding put
 built-room file table n es true e a =
     let m : length es ≡ n = cc in
-    record { entries = es; indexed = e; is = take-at (tableBytes es) _ (24 * n) (omega (arith, length-table es)) }
+    record { entries = es; indexed = e; is = take-at (tableBytes es) _ (entryLen * n) (omega (arith, length-table es)) }
 built-room file table n es false e a = let z : _≡_ {A = ℕ} 0 1 = cc in absurd (omega arith)
 
-pub built-own : (file table : List ℕ) (n : ℕ) → buildOf file table .answer ≡ accepted n → OwnIndex file (take (24 * n) (buildOf file table .table))
+pub built-own : (file table : List ℕ) (n : ℕ) → buildOf file table .answer ≡ accepted n → OwnIndex file (take (entryLen * n) (buildOf file table .table))
 unfolding buildOf
 built-own file table n a = go _ refl a
   where
     room : List ChunkIndexEntry → Answer (List ChunkIndexEntry)
-    room es = ask (leb (24 * length es) (length table)) 40 0 (accepted es)
+    room es = ask (leb (entryLen * length es) (length table)) 40 0 (accepted es)
 
     go : (x : Answer (List ChunkIndexEntry)) → indexOf file ≡ x → builtFrom table (andThen x room) .answer ≡ accepted n
-        → OwnIndex file (take (24 * n) (builtFrom table (andThen x room) .table))
-    go (accepted es) e a = built-room file table n es (leb (24 * length es) (length table)) e a
+        → OwnIndex file (take (entryLen * n) (builtFrom table (andThen x room) .table))
+    go (accepted es) e a = built-room file table n es (leb (entryLen * length es) (length table)) e a
     go (refused r) e a = let z : _≡_ {A = ℕ} 0 1 = cc in absurd (omega arith)

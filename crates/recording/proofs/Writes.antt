@@ -9,6 +9,7 @@ use borrow.Author.Tests.{ne-eqb}
 use lib.Dec.{eqb, ltb}
 use lib.ListN.{length, length-take}
 use lib.Seq.{take-append-le, drop-append-le}
+use Rattle.prelude.specs.Layout.{preludeLen}
 use Rattle.chunk.specs.Chunk.{trailerBytes}
 use Rattle.error.specs.Answer.{Answer, accepted, refused}
 use Rattle.error.specs.declared.Refusal.{Refusal}
@@ -20,9 +21,11 @@ use Rattle.duration.specs.declared.AmvDuration.{AmvDuration}
 use Rattle.prelude.specs.Built.{preludeBytes}
 use Rattle.prelude.specs.Prelude.{strictOf}
 use Rattle.prelude.proofs.BuiltLaws.{length-prelude, patched, strict-built}
-use Rattle.chunk_index.specs.Walk.{Kind, frame, sound, Walk, walk}
-use Rattle.chunk_index.specs.Walk as walks
-use Rattle.chunk_index.specs.Chunks.{Chunk, chunkOf, chunkBytes, chunksBytes, Lengths, walkOf}
+use Rattle.walk.specs.Walk.{Walk, walk, fileWalk}
+use Rattle.walk.specs.Walk as walks
+use Rattle.walk.specs.declared.Kind.{Kind}
+use Rattle.walk.specs.declared.Kind.the-variants.{Frame, Sound}
+use Rattle.walk.specs.Chunks.{Chunk, chunkOf, chunkBytes, chunksBytes, Lengths, walkOf}
 use Rattle.muxer.specs.Writer.{fresh, Outcome, packetBytes, patchRunLength, headerQuestions, headerCall, packetCall, trailerCall}
 use Rattle.muxer.specs.Writer as muxer
 use Rattle.muxer.specs.declared.Settings.{Settings}
@@ -67,8 +70,8 @@ put-front xs ys off bytes h = rw (take-append-le off xs ys (omega arith), drop-a
 -- ---- a call's chunk, and what chunks send
 
 abbrev kindFor : ℕ → Kind
-kindFor zero = frame
-kindFor (suc n) = sound
+kindFor zero = Frame
+kindFor (suc n) = Sound
 
 abbrev chunksFor : WriteCall → List Chunk
 chunksFor header = []
@@ -76,8 +79,8 @@ chunksFor (packet payload stream) = chunkOf (kindFor stream) payload ∷ []
 chunksFor trailer = []
 
 abbrev streamFor : Kind → ℕ
-streamFor frame = 0
-streamFor sound = 1
+streamFor Frame = 0
+streamFor Sound = 1
 
 abbrev sentOf : List Chunk → List Sent
 sentOf [] = []
@@ -107,9 +110,9 @@ sent-cons trailer calls = refl
 sent-drained : (frames samples : ℕ) (cs : List Chunk) → sentIn (drainFrom frames samples cs) ≡ sentOf cs
 unfolding sentIn drainFrom
 sent-drained frames samples [] = refl
-sent-drained frames samples (chunkOf frame payload ∷ cs) =
+sent-drained frames samples (chunkOf Frame payload ∷ cs) =
     ap (λ (l : List Sent). record { stream = 0; payload = payload } ∷ l) (sent-drained _ _ cs)
-sent-drained frames samples (chunkOf sound payload ∷ cs) =
+sent-drained frames samples (chunkOf Sound payload ∷ cs) =
     ap (λ (l : List Sent). record { stream = 1; payload = payload } ∷ l) (sent-drained _ _ cs)
 
 -- ---- the file by the writer's state
@@ -153,7 +156,7 @@ module _ (s : Settings) (held : Held s) (fps-positive : 0 < s .fps) (one-channel
       go : (b : Bool) → (d : ℕ) × (d < 256 ^ 4) × (cond b (put (preludeWith 0 ++ rest) 84 (leBytes 4 n)) (preludeWith 0 ++ rest) ≡ preludeWith d ++ rest)
       go true =
           let l : length (leBytes 4 n) ≡ 4 = length-leBytes 4 n in
-          let k : length (preludeWith 0) ≡ 316 = length-prelude (s .width) (s .height) (s .fps) 0 (s .rate) (s .channels) in (
+          let k : length (preludeWith 0) ≡ preludeLen = length-prelude (s .width) (s .height) (s .fps) 0 (s .rate) (s .channels) in (
             n,
             run-small (w .frames) (w .settings .fps),
             put-front (preludeWith 0) rest 84 (leBytes 4 n) (omega arith)

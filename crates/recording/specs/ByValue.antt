@@ -18,7 +18,7 @@ use Rattle.muxer.specs.Writer as muxer
 use Rattle.muxer.specs.declared.Settings.{Settings}
 use Rattle.muxer.specs.declared.Writer.{Writer}
 use Rattle.muxer.specs.declared.Wrote.{Wrote}
-use Rattle.chunk_index.specs.Chunks.{Chunk}
+use Rattle.walk.specs.Chunks.{Chunk}
 use Rattle.recording.specs.Grammar.{Finished}
 use Rattle.recording.specs.Machine.{Call, read, seek, CallAnswer, readAnswer, seekAnswer, Agreed, OwnIndex}
 use Rattle.recording.specs.Written.{WriteCall, writeStep, Held, WritesAgreed}

@@ -4,16 +4,16 @@ use mathlib.Core.List.{List, [], _∷_}
 use mathlib.Core.Option.{some}
 use Rattle.demuxer.specs.Head.{countOf}
 use Rattle.demuxer.specs.Packet.{Shown, durationOf, ticks}
-use Rattle.chunk_index.specs.Chunks.{Chunk, chunkOf}
-use Rattle.chunk_index.specs.Walk.{frame, sound}
+use Rattle.walk.specs.Chunks.{Chunk, chunkOf}
+use Rattle.walk.specs.declared.Kind.the-variants.{Frame, Sound}
 
 -- "one packet for each chunk, in order, with its stream and payload; a frame has duration 1 and is stamped with the frames before it;
 -- sound has its count as duration, 0 shown as none, and is stamped with the sum of the counts of sound before it"
 unfoldable pub drainFrom : ℕ → ℕ → List Chunk → List Shown
 drainFrom frames samples [] = []
-drainFrom frames samples (chunkOf frame payload ∷ cs) =
+drainFrom frames samples (chunkOf Frame payload ∷ cs) =
     record { stream = 0; payload = payload; stamp = frames; duration = some 1 } ∷ drainFrom (frames + 1) samples cs
-drainFrom frames samples (chunkOf sound payload ∷ cs) =
+drainFrom frames samples (chunkOf Sound payload ∷ cs) =
     record { stream = 1; payload = payload; stamp = samples; duration = ticks (durationOf (countOf payload)) }
     ∷ drainFrom frames (samples + countOf payload) cs
 
@@ -23,15 +23,15 @@ drain cs = drainFrom 0 0 cs
 -- the frames, samples and blocks of some chunks
 unfoldable pub frames : List Chunk → ℕ
 frames [] = 0
-frames (chunkOf frame payload ∷ cs) = suc (frames cs)
-frames (chunkOf sound payload ∷ cs) = frames cs
+frames (chunkOf Frame payload ∷ cs) = suc (frames cs)
+frames (chunkOf Sound payload ∷ cs) = frames cs
 
 unfoldable pub samples : List Chunk → ℕ
 samples [] = 0
-samples (chunkOf frame payload ∷ cs) = samples cs
-samples (chunkOf sound payload ∷ cs) = countOf payload + samples cs
+samples (chunkOf Frame payload ∷ cs) = samples cs
+samples (chunkOf Sound payload ∷ cs) = countOf payload + samples cs
 
 unfoldable pub blocks : List Chunk → ℕ
 blocks [] = 0
-blocks (chunkOf frame payload ∷ cs) = blocks cs
-blocks (chunkOf sound payload ∷ cs) = suc (blocks cs)
+blocks (chunkOf Frame payload ∷ cs) = blocks cs
+blocks (chunkOf Sound payload ∷ cs) = suc (blocks cs)

@@ -9,7 +9,7 @@ use Rattle.fields.specs.File.{fileLimit}
 use Rattle.prelude.specs.Layout.{preludeLen}
 use Rattle.prelude.specs.Prelude.{strictOf}
 use Rattle.prelude.specs.declared.prelude.AmvPrelude.{AmvPrelude}
-use Rattle.chunk_index.specs.Chunks.{Chunk, chunksBytes, Lengths}
+use Rattle.walk.specs.Chunks.{Chunk, chunksBytes, Lengths}
 
 -- "a prelude passing 11 to 24"
 abbrev pub Passes : List ℕ → Type 0

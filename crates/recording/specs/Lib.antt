@@ -2,9 +2,7 @@ pub mod Grammar
 pub mod Drain
 pub mod Machine
 pub mod Check
-pub mod CheckSteps
 pub mod Written
 pub mod Lists
 pub mod ByValue
 pub mod Together
-pub mod Sentences

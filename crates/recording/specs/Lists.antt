@@ -11,7 +11,7 @@ use Rattle.demuxer.specs.declared.walker.Walker.{Walker}
 use Rattle.muxer.specs.Writer as muxer
 use Rattle.muxer.specs.declared.Settings.{Settings}
 use Rattle.muxer.specs.declared.Writer.{Writer}
-use Rattle.chunk_index.specs.Chunks.{Chunk}
+use Rattle.walk.specs.Chunks.{Chunk}
 use Rattle.recording.specs.Grammar.{Finished}
 use Rattle.recording.specs.Machine.{Call, CallAnswer, call, Agreed, OwnIndex}
 use Rattle.recording.specs.Written.{WriteCall, writeStep, kept, Held, WritesAgreed}

@@ -14,7 +14,7 @@ use Rattle.prelude.specs.Layout.{preludeLen}
 use Rattle.demuxer.specs.Packet.{Shown}
 use Rattle.demuxer.specs.Read.{ReadAnswer, packet, End, fresh, readOf}
 use Rattle.demuxer.specs.declared.walker.Walker.{Walker}
-use Rattle.chunk_index.specs.Chunks.{Chunk, chunksBytes}
+use Rattle.walk.specs.Chunks.{Chunk, chunksBytes}
 use Rattle.chunk_index.specs.Entry.{tableBytes}
 use Rattle.chunk_index.specs.Index.{indexOf}
 use Rattle.chunk_index.specs.declared.entry.ChunkIndexEntry.{ChunkIndexEntry}

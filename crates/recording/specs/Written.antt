@@ -8,7 +8,7 @@ use Rattle.demuxer.specs.Packet.{Shown}
 use Rattle.muxer.specs.Writer.{fresh, Outcome, headerCall, packetCall, trailerCall}
 use Rattle.muxer.specs.declared.Settings.{Settings}
 use Rattle.muxer.specs.declared.Writer.{Writer}
-use Rattle.chunk_index.specs.Chunks.{Chunk}
+use Rattle.walk.specs.Chunks.{Chunk}
 use Rattle.recording.specs.Drain.{drain}
 use Rattle.recording.specs.Grammar.{Finished}
 

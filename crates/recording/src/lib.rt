@@ -1,2 +1,1 @@
-// The finished recording: its check, and the claims about whole lists of calls (stated in specs/, proved in proofs/).
-pub mod check;
+// The claims about whole lists of calls: specs/ states them, over the contracts of the calls, and proofs/ proves them.

@@ -1,47 +1,92 @@
--- The invariant `Counting` says that the counts so far and those of the walk from here on make the whole; each arm is one step of the walk.
-use mathlib.Core.Path.{_≡_, refl, sym, ap, _∙_}
+-- `chunk_index::index::count_records` meets its contract. The invariant: the records counted so far and those of the walk from here on are all of
+-- them, and the tags from here on are what is left of the question. The measure is the bytes from here on, of which each chunk takes 8.
+-- Assumes nothing.
+use mathlib.Core.Path.{_≡_, refl, sym, _∙_}
+use mathlib.Core.Bool.{true}
 use Prim.Native.Nat.{ℕ, _-_}
 use native.Mathlib.Omega.{arith}
 use borrow.Author.Needs.{needs}
+use borrow.Author.Tests.{not-true, not-false}
 use lib.ListN.{length}
-use Rattle.chunk_index.proofs.Folds.{step-means}
-use Rattle.chunk_index.proofs.Counting.{Counting, count-stop, count-stray, count-frame, count-sound}
+use Rattle.error.specs.Answer.{accepted}
+use Rattle.error.proofs.Answers.{then-ok, then-err}
+use Rattle.walk.specs.Walk.{stop, walk}
+use Rattle.walk.proofs.Walks.{Goes, step-means}
+use Rattle.chunk_index.specs.Steps.{recordedAt}
+use Rattle.chunk_index.proofs.Counting.{headers-stop, headers-end, Counting, counting-start, counting-on, counted-stop, counted-end}
 use Rattle.chunk_index.proofs.index.count_records.Statement.{statement}
 use Rattle.chunk_index.proofs.index.count_records.Tie as tie
+use Rattle.chunk_index.proofs.index.count_records.Reads as reads
+use Rattle.chunk_index.proofs.index.count_records.Lts as lts
+use Rattle.chunk.proofs.advance_total.Reads as advance-total-reads
+use Rattle.chunk_index.proofs.index.ask_known.Reads as ask-known-reads
+use Rattle.chunk_index.proofs.index.recorded.Reads as recorded-reads
+use Rattle.walk.proofs.step_at.Reads as step-at-reads
 
 abbrev Inv-loop : tie.InvT-loop
-Inv-loop file at₀ frames₀ blocks₀ at frames blocks = Counting file at frames blocks
+Inv-loop file at₀ count₀ at count = Counting file at count
 
 abbrev μ-loop : tie.MeasureT-loop
-μ-loop file at₀ frames₀ blocks₀ at frames blocks = length file - at
+μ-loop file at₀ count₀ at count = length file - at
+
+-- the stop or the chunk that the step found
+stopped : (c : tie.After-stop Inv-loop μ-loop)
+    → walk (c .before .before .before .before .before .args .file .now) (c .before .before .before .loop .at) ≡ stop (c .stop .given .0 .0)
+stopped c = step-means _ _ _ (sym (c .before .before .step-at .ensures) ∙ c .stop .given .1)
+
+found : (c : tie.After-chunk Inv-loop μ-loop)
+    → Goes (c .before .before .before .before .before .args .file .now) (c .before .before .before .loop .at) (c .chunk .given .0 .0)
+found c = step-means _ _ _ (sym (c .before .before .step-at .ensures) ∙ c .chunk .given .1)
 
 loop-holds : tie.Need-loop-holds Inv-loop μ-loop
-loop-holds c = record { at-le = omega arith; chunks-le = omega arith; known = refl; counts = refl }
+loop-holds c = counting-start _
 
-indexed-at-requires : tie.Need-indexed-at-requires Inv-loop μ-loop
-indexed-at-requires c κs = search needs
+step-at-requires : tie.Need-step-at-requires Inv-loop μ-loop
+step-at-requires c κs = search needs
+
+enum-known-stop : tie.Need-enum-known-stop Inv-loop μ-loop
+enum-known-stop c = search needs
+
+ask-known-requires : tie.Need-ask-known-requires Inv-loop μ-loop
+ask-known-requires c κs = search needs
 
 enum-told : tie.Need-enum-told Inv-loop μ-loop
 enum-told c = search needs
 
 returns : tie.Need-returns Inv-loop μ-loop
 returns c =
-    count-stop (c .before .before .before .loop .inv)
-    (step-means _ _ _ (sym (c .before .before .indexed-at .ensures) ∙ c .enum-told .given .1))
+    let s = c .before .before .before .before in
+    let l = s .before .before .before .loop in
+    let r = c .before .before .ask-known in
+    sym (then-ok (λ _. accepted (l .count)) refl (c .enum-told .given .1))
+    ∙ headers-stop (l .inv .headers) (r .result) (l .count) _ (stopped s) (r .ensures) (counted-stop (l .inv) (stopped s))
 
-enum-told-2 : tie.Need-enum-told-2 Inv-loop μ-loop
-enum-told-2 c = search needs
+enum-known-e : tie.Need-enum-known-e Inv-loop μ-loop
+enum-known-e c = search needs
 
 returns-2 : tie.Need-returns-2 Inv-loop μ-loop
 returns-2 c =
-    count-stray (c .before .before .before .loop .inv)
-    (step-means _ _ _ (sym (c .before .before .indexed-at .ensures) ∙ c .enum-told2 .given .1))
+    let s = c .before .before .before .before .before in
+    let l = s .before .before .before .loop in
+    let r = c .before .before .before .ask-known in
+    sym (then-err (λ _. accepted (l .count)) refl (c .before .e .given .1))
+    ∙ headers-stop (l .inv .headers) (r .result) (l .count) _ (stopped s) (r .ensures) (counted-stop (l .inv) (stopped s))
 
-enum-known-size : tie.Need-enum-known-size Inv-loop μ-loop
-enum-known-size c = search needs
+enum-known-chunk : tie.Need-enum-known-chunk Inv-loop μ-loop
+enum-known-chunk c = search needs
 
-add-frames : tie.Need-add-frames Inv-loop μ-loop
-add-frames c = omega arith
+recorded-requires : tie.Need-recorded-requires Inv-loop μ-loop
+recorded-requires c κs = search needs
+
+returns-3 : tie.Need-returns-3 Inv-loop μ-loop
+returns-3 c =
+    let s = c .before .before .before in
+    let l = s .before .before .before .loop in
+    let r = sym (c .before .recorded .ensures) ∙ not-true _ (c .if1 .taken) in
+    headers-end (l .inv .headers) (l .count) _ (found s) r (counted-end (l .inv) (found s) r)
+
+add-count : tie.Need-add-count Inv-loop μ-loop
+add-count c = omega arith
 
 advance-total-requires : tie.Need-advance-total-requires Inv-loop μ-loop
 advance-total-requires c κs = search needs
@@ -50,36 +95,14 @@ add-at : tie.Need-add-at Inv-loop μ-loop
 add-at c = omega arith
 
 loop-less : tie.Need-loop-less Inv-loop μ-loop
-loop-less c =
-    let g = step-means _ _ _ (sym (c .before .before .before .before .indexed-at .ensures) ∙ c .before .before .size .given .1) in
-    omega (arith, g .there)
+loop-less c = omega (arith, found (c .before .before .before .before) .there)
 
 loop-again : tie.Need-loop-again Inv-loop μ-loop
 loop-again c =
-    let g = step-means _ _ _ (sym (c .before .before .before .before .indexed-at .ensures) ∙ c .before .before .size .given .1) in
-    rw (c .advance-total .ensures) (count-frame (c .before .before .before .before .before .loop .inv) (omega arith) (omega arith) g)
-
-enum-known-size-2 : tie.Need-enum-known-size-2 Inv-loop μ-loop
-enum-known-size-2 c = search needs
-
-add-blocks : tie.Need-add-blocks Inv-loop μ-loop
-add-blocks c = omega arith
-
-advance-total-requires-2 : tie.Need-advance-total-requires-2 Inv-loop μ-loop
-advance-total-requires-2 c κs = search needs
-
-add-at-2 : tie.Need-add-at-2 Inv-loop μ-loop
-add-at-2 c = omega arith
-
-loop-less-2 : tie.Need-loop-less-2 Inv-loop μ-loop
-loop-less-2 c =
-    let g = step-means _ _ _ (sym (c .before .before .before .before .indexed-at .ensures) ∙ c .before .before .size2 .given .1) in
-    omega (arith, g .there)
-
-loop-again-2 : tie.Need-loop-again-2 Inv-loop μ-loop
-loop-again-2 c =
-    let g = step-means _ _ _ (sym (c .before .before .before .before .indexed-at .ensures) ∙ c .before .before .size2 .given .1) in
-    rw (c .advance-total2 .ensures) (count-sound (c .before .before .before .before .before .loop .inv) (omega arith) (omega arith) g)
+    let s = c .before .before .before .before in
+    let l = s .before .before .before .loop in
+    rw (c .advance-total .ensures)
+    (counting-on (l .inv) (omega arith) (omega arith) (found s) (sym (c .before .before .recorded .ensures) ∙ not-false _ (c .before .if1 .left)))
 
 pub count-records-spec : {M : Type 1} → statement M
 count-records-spec =
@@ -88,20 +111,18 @@ count-records-spec =
     Inv-loop
     μ-loop
     loop-holds
-    indexed-at-requires
+    step-at-requires
+    enum-known-stop
+    ask-known-requires
     enum-told
     returns
-    enum-told-2
+    enum-known-e
     returns-2
-    enum-known-size
-    add-frames
+    enum-known-chunk
+    recorded-requires
+    returns-3
+    add-count
     advance-total-requires
     add-at
     loop-less
-    loop-again
-    enum-known-size-2
-    add-blocks
-    advance-total-requires-2
-    add-at-2
-    loop-less-2
-    loop-again-2)
+    loop-again)

@@ -1,19 +1,27 @@
+-- `chunk_index::index::write_records` meets its contract. The invariant: putting the records of the walk from here on at `to` makes the whole
+-- table, which has room for them. The measure is the bytes of the file from here on, of which each chunk takes 8.
+-- Assumes nothing.
 use mathlib.Core.Path.{_≡_, refl, sym, ap, _∙_, subst}
-use Prim.Native.Nat.{ℕ, _-_, _*_, _+_, _≤_}
+use Prim.Native.Nat.{ℕ, _-_}
 use native.Mathlib.Omega.{arith}
 use borrow.Author.Needs.{needs}
+use borrow.Author.Tests.{not-true, not-false}
 use lib.ListN.{length}
-use Rattle.demuxer.specs.Position.{start}
-use Rattle.chunk_index.specs.Steps.{Walked, NextWalked}
-use Rattle.chunk_index.specs.declared.index.Step.the-variants.{Done, Record}
-use Rattle.chunk_index.proofs.Writing.{Writing, StepMeans, Steps, step-gives, walked-small, write-end, write-room, write-more}
+use Rattle.walk.specs.Steps.{Walked}
+use Rattle.walk.proofs.Walked.{walked-start}
+use Rattle.walk.proofs.Walks.{Goes, step-means, past-cursor}
+use Rattle.chunk_index.proofs.Folds.{records-stop, records-end}
+use Rattle.chunk_index.proofs.Writing.{Writing, walked-small, write-end, write-room, write-more}
 use Rattle.chunk_index.proofs.index.write_records.Statement.{statement}
 use Rattle.chunk_index.proofs.index.write_records.Tie as tie
 use Rattle.chunk_index.proofs.index.write_records.Reads as reads
 use Rattle.chunk_index.proofs.index.write_records.Lts as lts
 use Rattle.chunk_index.proofs.entry.ChunkIndexEntry.write.Reads as write-reads
-use Rattle.chunk_index.proofs.index.step_at.Reads as step-at-reads
+use Rattle.chunk_index.proofs.index.recorded.Reads as recorded-reads
 use Rattle.demuxer.proofs.position.Position.new.Reads as new-reads
+use Rattle.walk.proofs.ChunkAt.past.Reads as past-reads
+use Rattle.walk.proofs.Kind.tag.Reads as tag-reads
+use Rattle.walk.proofs.step_at.Reads as step-at-reads
 
 abbrev Inv-loop : tie.InvT-loop
 Inv-loop file table₀ position₀ to₀ table position to = Writing file table₀ table position to
@@ -21,22 +29,25 @@ Inv-loop file table₀ position₀ to₀ table position to = Writing file table�
 abbrev μ-loop : tie.MeasureT-loop
 μ-loop file table₀ position₀ to₀ table position to = length file - position .cursor
 
+-- the chunk that the step found
+found : (c : tie.After-chunk Inv-loop μ-loop)
+    → Goes (c .before .before .before .before .before .before .before .args .file .now) (c .before .before .before .loop .position .cursor)
+    (c .chunk .given .0 .0)
+found c = step-means _ _ _ (sym (c .before .before .step-at .ensures) ∙ c .chunk .given .1)
+
 new-requires : tie.Need-new-requires Inv-loop μ-loop
 new-requires c κs = search needs
 
 loop-holds : tie.Need-loop-holds Inv-loop μ-loop
 loop-holds c =
     let room = c .before .before .before .pre .1 in
-    rw (c .new .ensures)
-    (record {
-      walked = record { cursor-le = omega arith; chunks-le = omega arith; samples-le = omega arith };
-      kept = refl;
-      room = omega arith;
-      rest = refl;
-    })
+    rw (c .new .ensures) (record { walked = walked-start; kept = refl; room = omega arith; rest = refl })
 
 step-at-requires : tie.Need-step-at-requires Inv-loop μ-loop
-step-at-requires c κs = (omega arith, c .loop .inv .walked)
+step-at-requires c κs = search needs
+
+enum-known-chunk : tie.Need-enum-known-chunk Inv-loop μ-loop
+enum-known-chunk c = search needs
 
 enum-told : tie.Need-enum-told Inv-loop μ-loop
 enum-told c = search needs
@@ -45,40 +56,63 @@ same-length : tie.Need-same-length Inv-loop μ-loop
 same-length c = c .before .before .before .loop .inv .kept
 
 returns : tie.Need-returns Inv-loop μ-loop
-returns c = write-end (c .before .before .before .loop .inv) (subst (StepMeans _ (c .before .before .before .loop .position)) (sym (c .before .before .step-at .ensures .0) ∙ c .enum-told .given .1) (step-gives _ (c .before .before .before .loop .position)))
+returns c =
+    let l = c .before .before .before .loop in
+    write-end (l .inv) (records-stop _ (l .position) (step-means _ _ _ (sym (c .before .before .step-at .ensures) ∙ c .enum-told .given .1)))
 
-enum-known-entry : tie.Need-enum-known-entry Inv-loop μ-loop
-enum-known-entry c = search needs
+recorded-requires : tie.Need-recorded-requires Inv-loop μ-loop
+recorded-requires c κs = search needs
 
--- the step that was taken, and that its next position is walked
-taken : (c : tie.After-entry Inv-loop μ-loop)
-    → Steps (c .before .before .before .before .before .before .before .args .file .now) (c .before .before .before .loop .position) (c .entry .given .0 .0) (c .entry .given .0 .1 .0)
-taken c =
-    let p = c .before .before .before .loop .position in
-    subst (StepMeans _ p) (sym (c .before .before .step-at .ensures .0) ∙ c .entry .given .1) (step-gives _ p)
+same-length-2 : tie.Need-same-length-2 Inv-loop μ-loop
+same-length-2 c = c .before .before .before .before .before .before .loop .inv .kept
 
-next-walked : (c : tie.After-entry Inv-loop μ-loop) → Walked (c .entry .given .0 .1 .0)
-next-walked c = subst NextWalked (c .entry .given .1) (c .before .before .step-at .ensures .1)
+returns-2 : tie.Need-returns-2 Inv-loop μ-loop
+returns-2 c =
+    let s = c .before .before .before in
+    let l = s .before .before .before .loop in
+    write-end (l .inv) (records-end _ (l .position) _ (found s) (sym (c .before .recorded .ensures) ∙ not-true _ (c .if1 .taken)))
+
+tag-requires : tie.Need-tag-requires Inv-loop μ-loop
+tag-requires c κs = search needs
 
 write-requires : tie.Need-write-requires Inv-loop μ-loop
 write-requires c κs =
-    let s = taken (c .before .before) in
-    let l = c .before .before .before .before .before .loop in
-    let h : l .position .cursor ≤ 4294967295 = omega (arith, s .there, c .before .before .before .before .before .before .before .before .before .pre .0) in
-    (write-room (l .inv) s, rw (s .here) (walked-small (l .position) (l .inv .walked) h))
+    let s = c .before .before .before .before .before in
+    let l = s .before .before .before .loop in
+    let g = found s in
+    let r = sym (c .before .before .before .recorded .ensures) ∙ not-false _ (c .before .before .if1 .left) in (
+      write-room (l .inv) g r,
+      walked-small (l .position) (l .inv .walked) (omega (arith, g .there, s .before .before .before .before .before .before .before .pre .0)),
+    )
+
+past-requires : tie.Need-past-requires Inv-loop μ-loop
+past-requires c κs =
+    let s = c .before .before .before .before .before .before .before .before in
+    let l = s .before .before .before .loop in
+    let g = found s in
+    (s .before .before .before .before .before .before .before .pre .0, (g .there, l .inv .walked))
 
 add-to : tie.Need-add-to Inv-loop μ-loop
 add-to c =
-    let s = taken (c .before .before .before .before .before) in
-    omega (arith, write-room (c .before .before .before .before .before .before .before .before .loop .inv) s, c .before .before .before .before .before .before .before .before .loop .inv .kept)
+    let s = c .before .before .before .before .before .before .before .before .before in
+    let l = s .before .before .before .loop in
+    let r = sym (c .before .before .before .before .before .before .before .recorded .ensures) ∙ not-false _ (c .before .before .before .before .before .before .if1 .left) in
+    omega (arith, write-room (l .inv) (found s) r, l .inv .kept)
 
 loop-less : tie.Need-loop-less Inv-loop μ-loop
-loop-less c = let s = taken (c .before .before .before .before .before) in omega (arith, s .there, s .on)
+loop-less c =
+    let s = c .before .before .before .before .before .before .before .before .before in
+    let l = s .before .before .before .loop in
+    let file = s .before .before .before .before .before .before .before .args .file .now in
+    rw (c .past .ensures .0) (omega (arith, found s .there, past-cursor file (l .position) (s .chunk .given .0 .0)))
 
 loop-again : tie.Need-loop-again Inv-loop μ-loop
 loop-again c =
-    let s = taken (c .before .before .before .before .before) in
-    rw (c .before .before .write .ensures) (write-more (c .before .before .before .before .before .before .before .before .loop .inv) s (next-walked (c .before .before .before .before .before)))
+    let s = c .before .before .before .before .before .before .before .before .before in
+    let l = s .before .before .before .loop in
+    let r = sym (c .before .before .before .before .before .before .before .recorded .ensures) ∙ not-false _ (c .before .before .before .before .before .before .if1 .left) in
+    rw (c .before .before .before .write .ensures, c .before .before .before .before .before .tag .ensures, c .past .ensures .0)
+    (write-more (l .inv) (found s) r (subst Walked (c .past .ensures .0) (c .past .ensures .1)))
 
 pub write-records-spec : {M : Type 1} → statement M
 write-records-spec =
@@ -89,11 +123,16 @@ write-records-spec =
     new-requires
     loop-holds
     step-at-requires
+    enum-known-chunk
     enum-told
     same-length
     returns
-    enum-known-entry
+    recorded-requires
+    same-length-2
+    returns-2
+    tag-requires
     write-requires
+    past-requires
     add-to
     loop-less
     loop-again)

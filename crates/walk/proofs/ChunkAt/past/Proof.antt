@@ -1,0 +1,73 @@
+-- `walk::ChunkAt::past` meets its contract. The kind that was matched fixes how the position goes on, and a walked position at a header stays walked.
+-- Assumes nothing.
+use Prim.Native.Nat.{ℕ}
+use mathlib.Core.Path.{_≡_, sym, ap, _∙_}
+use native.Mathlib.Omega.{arith}
+use borrow.Author.Needs.{needs}
+use Rattle.demuxer.specs.Head.{countOf}
+use Rattle.demuxer.specs.Position.{pastSound}
+use Rattle.demuxer.specs.Read.{payloadAt}
+use Rattle.walk.specs.Walk.{pastBy}
+use Rattle.walk.specs.declared.Kind.{Kind}
+use Rattle.walk.proofs.Walked.{walked-range, walked-frame, walked-sound}
+use Rattle.walk.proofs.ChunkAt.past.Statement.{statement}
+use Rattle.walk.proofs.ChunkAt.past.Tie as tie
+use Rattle.walk.proofs.ChunkAt.past.Reads as reads
+use Rattle.walk.proofs.ChunkAt.past.Lts as lts
+use Rattle.demuxer.proofs.head.sample_count.Reads as sample-count-reads
+use Rattle.demuxer.proofs.position.Position.past_frame.Reads as past-frame-reads
+use Rattle.demuxer.proofs.position.Position.past_sound.Reads as past-sound-reads
+
+enum-told : tie.Need-enum-told
+enum-told c = search needs
+
+past-frame-requires : tie.Need-past-frame-requires
+past-frame-requires c κs = search needs
+
+enum-told-2 : tie.Need-enum-told-2
+enum-told-2 c = search needs
+
+add-sample-count : tie.Need-add-sample-count
+add-sample-count c = search needs
+
+sample-count-requires : tie.Need-sample-count-requires
+sample-count-requires c κs = search needs
+
+past-sound-requires : tie.Need-past-sound-requires
+past-sound-requires c κs = search needs
+
+returns : tie.Need-returns
+returns c =
+    let s = c .before .before .before .before in
+    let a = s .args in
+    let e = c .past-frame .ensures in
+    let count = countOf (payloadAt (a .file .now) (a .position .cursor) (a .self .size)) in (
+      e ∙ sym (ap (λ (k : Kind). pastBy (a .position) k (a .self .size) count) (c .before .enum-told .given .1)),
+      rw e (walked-frame (a .position) (s .pre .1 .1) (omega (arith, s .pre .0, s .pre .1 .0)) (a .self .size) (omega arith)),
+    )
+
+returns-2 : tie.Need-returns-2
+returns-2 c =
+    let s = c .before .before .before .before .before in
+    let a = s .args in
+    let e = c .past-sound .ensures in
+    let count = countOf (payloadAt (a .file .now) (a .position .cursor) (a .self .size)) in (
+      e
+          ∙ ap (λ (n : ℕ). pastSound (a .position) (a .self .size) n) (c .before .sample-count .ensures)
+          ∙ sym (ap (λ (k : Kind). pastBy (a .position) k (a .self .size) count) (c .before .before .enum-told2 .given .1)),
+      rw e
+          (walked-sound (a .position) (s .pre .1 .1) (omega (arith, s .pre .0, s .pre .1 .0)) (a .self .size) (c .before .sample-count .result) (omega arith) (omega arith)),
+    )
+
+pub past-spec : {M : Type 1} → statement M
+past-spec =
+    tie.close
+    (tie.spec
+    enum-told
+    past-frame-requires
+    enum-told-2
+    add-sample-count
+    sample-count-requires
+    past-sound-requires
+    returns
+    returns-2)

@@ -1,0 +1,29 @@
+-- Where a walk can stand. Its positions stay in every range: by then at most 2^29 chunks have passed, each with a u32 of samples. Assumes nothing.
+use mathlib.Core.Path.{_≡_}
+use Prim.Native.Nat.{ℕ, _+_, _*_, _≤_, _<_}
+use native.Mathlib.Omega.{arith}
+use Rattle.fields.specs.File.{fileLimit}
+use Rattle.demuxer.specs.Position.{start, InRange, pastFrame, pastSound}
+use Rattle.demuxer.specs.declared.position.Position.{Position}
+use Rattle.walk.specs.Steps.{Walked}
+
+pub walked-start : Walked start
+walked-start = record { cursor-le = omega arith; chunks-le = omega arith; samples-le = omega arith }
+
+module _ (p : Position) (w : Walked p) (l : p .cursor + 8 ≤ fileLimit) where
+  pub walked-range : InRange p
+  walked-range =
+      record {
+        cursor-in = omega arith;
+        frames-in = omega (arith, w .chunks-le);
+        samples-in = omega (arith, w .chunks-le, w .samples-le);
+        blocks-in = omega (arith, w .chunks-le);
+      }
+
+  -- and the position after a chunk is one of them
+  pub walked-frame : (size : ℕ) → size < 4294967296 → Walked (pastFrame p size)
+  walked-frame size b = record { cursor-le = omega arith; chunks-le = omega (arith, w .chunks-le); samples-le = w .samples-le }
+
+  pub walked-sound : (size count : ℕ) → size < 4294967296 → count < 4294967296 → Walked (pastSound p size count)
+  walked-sound size count b n =
+      record { cursor-le = omega arith; chunks-le = omega (arith, w .chunks-le); samples-le = omega (arith, w .samples-le) }

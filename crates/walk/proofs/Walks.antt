@@ -1,0 +1,132 @@
+-- The walk, step by step: the fuel is hidden here for good. A header that is one has its 8 bytes, so each chunk brings the walk nearer to the
+-- file's end and fuel for the bytes that are left is enough. Assumes nothing.
+use mathlib.Core.Path.{_≡_, refl, sym, ap, _∙_, subst}
+use mathlib.Core.List.{List}
+use Prim.Native.Nat.{ℕ, zero, suc, _+_, _-_, _≤_, _<_}
+use native.Mathlib.Decide.{decLe}
+use native.Mathlib.Nat.{lt-of-not-le}
+use native.Mathlib.Omega.{arith}
+use borrow.Author.Tests.{le-leb, lt-leb}
+use lib.Dec.{leb}
+use lib.ListN.{length, length-take, length-drop}
+use Rattle.demuxer.specs.Head.{headAt, countOf}
+use Rattle.demuxer.specs.Read.{payloadAt}
+use Rattle.demuxer.specs.declared.head.Head.{Head}
+use Rattle.demuxer.specs.declared.head.Head.the-variants as head
+use Rattle.demuxer.specs.declared.position.Position.{Position}
+use Rattle.demuxer.proofs.Heads.{head-out}
+use Rattle.walk.specs.Steps.{pastAt}
+use Rattle.walk.specs.Walk.{Walk, stop, chunk, chunkAt, onHead, stepAt, onStep, walkFor, walk, pastBy, past}
+use Rattle.walk.specs.declared.Kind.{Kind}
+use Rattle.walk.specs.declared.Kind.the-variants.{Frame, Sound}
+use Rattle.walk.specs.declared.Stop.{Stop}
+use Rattle.walk.specs.declared.Stop.the-variants.{RanOut}
+use Rattle.walk.specs.declared.ChunkAt.{ChunkAt}
+use Rattle.walk.specs.declared.Step.{Step}
+use Rattle.walk.specs.declared.Step.the-variants as step
+
+-- where there is one, its 8 bytes are
+pub head-there : (file : List ℕ) (at : ℕ) → (headAt file at ≡ head.Short → ⊥) → at + 8 ≤ length file
+head-there file at h =
+    elim (decLe (at + 8) (length file)) [
+      | yes l ↦ l
+      | no l ↦ absurd (h (head-out file at (lt-of-not-le l)))
+    ]
+
+-- and so of the trailer and of each kind
+pub trailer-there : (file : List ℕ) (at : ℕ) → headAt file at ≡ head.Trailer → at + 8 ≤ length file
+trailer-there file at e = head-there file at (λ x. let z : _≡_ {A = ℕ} 0 1 = cc in omega arith)
+
+pub video-there : (file : List ℕ) (at size : ℕ) → headAt file at ≡ head.Video size → at + 8 ≤ length file
+video-there file at size e = head-there file at (λ x. let z : _≡_ {A = ℕ} 0 1 = cc in omega arith)
+
+pub audio-there : (file : List ℕ) (at size : ℕ) → headAt file at ≡ head.Audio size → at + 8 ≤ length file
+audio-there file at size e = head-there file at (λ x. let z : _≡_ {A = ℕ} 0 1 = cc in omega arith)
+
+-- past the file's end nothing stands
+pub step-out : (file : List ℕ) (at : ℕ) → length file < at + 8 → stepAt file at ≡ step.Stop RanOut
+unfolding stepAt
+step-out file at l = ap (onHead file at) (head-out file at l)
+
+-- the same step, and two walks that agree from 8 bytes on
+on-same : (file : List ℕ) (at : ℕ) (f g : ℕ → Walk) → ((n : ℕ) → at + 8 ≤ n → f n ≡ g n) → (s : Step) → onStep file at f s ≡ onStep file at g s
+on-same file at f g e (step.Stop s) = refl
+on-same file at f g e (step.Chunk c) = ap (chunk (c .kind) (payloadAt file at (c .size)) (c .missing)) (e (at + (8 + c .size)) (omega arith))
+
+-- so fuel for the bytes that are left is enough
+same-walk : (k m : ℕ) (file : List ℕ) (at : ℕ) → length file ≤ at + k → length file ≤ at + m → walkFor k file at ≡ walkFor m file at
+unfolding walkFor
+same-walk zero zero file at p q = refl
+same-walk zero (suc m) file at p q = sym (ap (onStep file at (walkFor m file)) (step-out file at (omega arith)))
+same-walk (suc k) zero file at p q = ap (onStep file at (walkFor k file)) (step-out file at (omega arith))
+same-walk (suc k) (suc m) file at p q =
+    on-same file at (walkFor k file) (walkFor m file) (λ n l. same-walk k m file n (omega arith) (omega arith)) (stepAt file at)
+
+-- the walk from an offset, by the step there
+pub walk-step : (file : List ℕ) (at : ℕ) → walk file at ≡ onStep file at (walk file) (stepAt file at)
+unfolding walk walkFor
+walk-step file at =
+    same-walk (length file) (suc (length file)) file at (omega arith) (omega arith)
+    ∙ on-same file at (walkFor (length file) file) (walkFor (length file) file) (λ n l. refl) (stepAt file at)
+
+-- a payload and what is missing of it make its length
+pub payload-size : (file : List ℕ) (at size : ℕ) → length (payloadAt file at size) + (size - length (payloadAt file at size)) ≡ size
+payload-size file at size =
+    let l : length (payloadAt file at size) ≤ size = simp length-take (omega arith) in
+    omega arith
+
+-- the first bytes of a payload are there where the file has them
+pub payload-there : (file : List ℕ) (at size n : ℕ) → at + 8 ≤ length file → n ≤ size
+    → leb n (length (payloadAt file at size)) ≡ leb (at + 8 + n) (length file)
+payload-there file at size n h k =
+    elim (decLe (at + 8 + n) (length file)) [
+      | yes l ↦
+          le-leb n (length (payloadAt file at size)) (simp (length-take, length-drop) (omega arith)) ∙ sym (le-leb (at + 8 + n) (length file) l)
+      | no l ↦
+          let m : length file < at + 8 + n = lt-of-not-le l in
+          lt-leb n (length (payloadAt file at size)) (simp (length-take, length-drop) (omega arith)) ∙ sym (lt-leb (at + 8 + n) (length file) m)
+    ]
+
+-- ---- what a step says of the walk
+
+-- a chunk: its header lies in the file, its payload and what is missing make its length, and the walk goes past it
+pub record Goes (file : List ℕ) (at : ℕ) (c : ChunkAt) : Type 0 where
+  pub there : at + 8 ≤ length file
+  pub size-is : length (payloadAt file at (c .size)) + c .missing ≡ c .size
+  pub is : walk file at ≡ chunk (c .kind) (payloadAt file at (c .size)) (c .missing) (walk file (at + (8 + c .size)))
+
+abbrev pub Means : List ℕ → ℕ → Step → Type 0
+Means file at (step.Stop s) = walk file at ≡ stop s
+Means file at (step.Chunk c) = Goes file at c
+
+goes : (file : List ℕ) (at : ℕ) (kind : Kind) (size : ℕ) → stepAt file at ≡ step.Chunk (chunkAt file at kind size)
+    → at + 8 ≤ length file → Goes file at (chunkAt file at kind size)
+goes file at kind size e t =
+    record { there = t; size-is = payload-size file at size; is = walk-step file at ∙ ap (onStep file at (walk file)) e }
+
+means : (file : List ℕ) (at : ℕ) → Means file at (stepAt file at)
+unfolding stepAt
+means file at = on (headAt file at) refl
+  where
+    on : (h : Head) → headAt file at ≡ h → Means file at (onHead file at h)
+    on head.Short e = walk-step file at ∙ ap (λ (h : Head). onStep file at (walk file) (onHead file at h)) e
+    on head.Trailer e = walk-step file at ∙ ap (λ (h : Head). onStep file at (walk file) (onHead file at h)) e
+    on head.Unknown e = walk-step file at ∙ ap (λ (h : Head). onStep file at (walk file) (onHead file at h)) e
+    on (head.Video size) e = goes file at Frame size (ap (onHead file at) e) (video-there file at size e)
+    on (head.Audio size) e = goes file at Sound size (ap (onHead file at) e) (audio-there file at size e)
+
+pub step-means : (file : List ℕ) (at : ℕ) (x : Step) → stepAt file at ≡ x → Means file at x
+step-means file at x e = subst (Means file at) e (means file at)
+
+-- and the position after it, as the code counts it
+pub past-is : (file : List ℕ) (p : Position) (c : ChunkAt) → Goes file (p .cursor) c
+    → past p (c .kind) (payloadAt file (p .cursor) (c .size)) (c .missing) ≡ pastAt file p c
+past-is file p c g = ap (λ (n : ℕ). pastBy p (c .kind) n (countOf (payloadAt file (p .cursor) (c .size)))) (g .size-is)
+
+-- which stands at the next chunk
+pub by-cursor : (p : Position) (kind : Kind) (size count : ℕ) → pastBy p kind size count .cursor ≡ p .cursor + (8 + size)
+by-cursor p Frame size count = refl
+by-cursor p Sound size count = refl
+
+pub past-cursor : (file : List ℕ) (p : Position) (c : ChunkAt) → pastAt file p c .cursor ≡ p .cursor + (8 + c .size)
+past-cursor file p c = by-cursor p (c .kind) (c .size) (countOf (payloadAt file (p .cursor) (c .size)))
