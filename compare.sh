@@ -2,7 +2,9 @@
 # Holds the library against the Rust original and against a plain second implementation of document 01:
 #   ./compare.sh [SEED] [COUNT] [DIR]
 #   ./compare.sh vectors [DIR]     stores answers, the original's and 01's, for the program vectors
-# DIR holds the original's parse.rs, demuxer.rs and muxer.rs, which are built as they stand. Needs cargo; no network.
+# After the short inputs, the programs and the large files, random inputs from SEED (1) run until COUNT (20000000) comparisons are made in
+# all, but at least 1000 rounds. DIR holds the original's parse.rs, demuxer.rs and muxer.rs, which are built as they stand. Needs cargo; no
+# network.
 cd "$(dirname "$0")" || exit 2
 if [ "${1:-}" = vectors ]; then
     words=(vectors "$PWD/crates/vectors") dir=${2:-../shared/docs/src}

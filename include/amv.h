@@ -43,9 +43,10 @@ extern "C" {
 #define AMV_FRESH_WRITER(width, height, fps, rate, channels) \
     { (uint64_t)(width), (uint64_t)(height), (uint64_t)(fps), (uint64_t)(rate), (uint64_t)(channels), 0, 0, 0, 0 }
 
-/* The 316 bytes at the start of a file. Without strict only the layout is asked for, 10 to 13; with strict every field that a device
- * fixes, 14 to 24, too. out: place, microseconds a frame, width, height, fps, flag, reserved, run length (packed: seconds, minutes
- * times 256, hours times 65536), format, channels, rate, average bytes a second, align, bits, cbSize, offset of the first chunk. */
+/* The 316 bytes at the start of a file: without strict only the layout is asked for, with strict every field that a device fixes too. out:
+ * place, microseconds a frame, width, height, fps, flag, reserved, run length (packed: seconds, minutes times 256, hours times 65536),
+ * format, channels, rate, average bytes a second, align, bits, cbSize, offset of the first chunk. Refuses with 10 to 13; with strict with
+ * 14 to 24 too. */
 uint32_t amv_parse(const uint8_t *file, size_t len, bool strict, uint64_t out[16]);
 
 /* The packet at the walker's cursor, and the walker past it. out: place, 1 for a packet or 0 for End, stream (0 picture, 1 sound), offset
@@ -90,7 +91,7 @@ uint32_t amv_write_trailer(uint64_t writer[9], uint8_t *buf, size_t len, uint64_
 uint32_t amv_validate_movi_interleave(const uint32_t *tags, size_t count, uint64_t out[1]);
 
 /* The packed run length of a number of frames: seconds, minutes times 256, hours times 65536; 0 for fps 0. Hours and minutes are at most
- * 255. */
+ * 255. Never refuses. */
 uint32_t amv_from_frame_count(uint64_t frames, uint32_t fps);
 
 #ifdef __cplusplus

@@ -11,7 +11,7 @@ pub struct Side {
     pub write: fn(&mut [u8], usize, &[u8]) -> u64,
 }
 
-// The library's calls are declared once, for the comparison; four of them are not timed.
+// The library's calls are declared once, in the Rust binding; four of them are not timed.
 #[allow(dead_code)]
 #[path = "../../bindings/rust/src/sys.rs"]
 mod c;

@@ -173,7 +173,7 @@ pub fn seek_to_via_index(
     let plain = words::seek_to_via_index(table, walker, stream, request);
     let mut library_walker = given;
     let library = library::seek_to_via_index(table, &mut library_walker, stream, request);
-    let expected = rules::seek(
+    let expected = rules::seek_to_via_index(
         table,
         words::walker_of(&given),
         stream,
@@ -197,11 +197,11 @@ pub fn seek_to_via_index(
 }
 
 /// The public seek of the original on the same records.
-pub fn public_seek(tally: &mut Tally, table: &[u8], given: Walker, stream: u32, request: i64) {
+pub fn seek_to(tally: &mut Tally, table: &[u8], given: Walker, stream: u32, request: i64) {
     let private = told_seek(table, given, stream, request);
-    let expected = rules::public_seek(stream, request, given, private);
+    let expected = rules::seek_to(stream, request, given, private);
     let mut state = given;
-    let told = original::public_seek(&plain::read_table(table), &mut state, stream, request);
+    let told = original::seek_to(&plain::read_table(table), &mut state, stream, request);
     let told = Some((told, state));
     let same = original_agrees(tally, &expected, &told);
     tally.judge("seek_to (original)", same, || {
@@ -213,9 +213,9 @@ pub fn public_seek(tally: &mut Tally, table: &[u8], given: Walker, stream: u32, 
 }
 
 /// Whether the original's `open` takes the settings.
-pub fn opens(tally: &mut Tally, settings: &plain::Settings) {
-    let expected = rules::opens(settings);
-    let told = Some(original::opens(settings));
+pub fn open(tally: &mut Tally, settings: &plain::Settings) {
+    let expected = rules::open(settings);
+    let told = Some(original::open(settings));
     let same = original_agrees(tally, &expected, &told);
     tally.judge("open (original)", same, || {
         format!("{settings:?}: {told:?}")
@@ -224,7 +224,7 @@ pub fn opens(tally: &mut Tally, settings: &plain::Settings) {
 
 fn told_seek(table: &[u8], mut state: Walker, stream: u32, request: i64) -> (Told<2>, Walker) {
     let records = plain::read_table(table);
-    let told = original::seek(&records, &mut state, stream, request);
+    let told = original::seek_to_via_index(&records, &mut state, stream, request);
     (told, state)
 }
 

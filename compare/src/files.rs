@@ -13,7 +13,7 @@ pub const EXAMPLE_SETTINGS: Settings = Settings {
 
 /// 01's small file E.
 pub fn example() -> Vec<u8> {
-    let mut file = plain::build_prelude(EXAMPLE_SETTINGS, 0).to_vec();
+    let mut file = plain::build_prelude_bytes(EXAMPLE_SETTINGS, 0).to_vec();
     push_chunk(&mut file, VIDEO, &[0xff, 0xd8, 0xd9]);
     push_chunk(&mut file, AUDIO, &[0, 0, 0, 0, 2, 0, 0, 0, 0x11, 0x22]);
     file.extend(TRAILER);
@@ -32,7 +32,7 @@ pub fn shapes() -> Vec<Vec<u8>> {
         &[(AUDIO, 16), (VIDEO, 2)],
     ];
     let shape = |chunks: &[(u32, usize)]| {
-        let mut file = plain::build_prelude(EXAMPLE_SETTINGS, 0).to_vec();
+        let mut file = plain::build_prelude_bytes(EXAMPLE_SETTINGS, 0).to_vec();
         for (tag, length) in chunks {
             push_chunk(&mut file, *tag, &vec![5; *length]);
         }
@@ -59,7 +59,7 @@ pub fn finished(random: &mut Random) -> Vec<u8> {
         rate: random.word32(),
         channels: 1,
     };
-    let mut file = plain::build_prelude(settings, random.word32()).to_vec();
+    let mut file = plain::build_prelude_bytes(settings, random.word32()).to_vec();
     push_chunks(random, &mut file);
     file.extend(TRAILER);
     file
@@ -144,7 +144,7 @@ fn put_in_movi(random: &mut Random, file: &mut [u8]) {
 
 /// A prelude whose fields are at boundaries, with a field or two put wrong.
 pub fn prelude(random: &mut Random) -> Vec<u8> {
-    let mut file = plain::build_prelude(
+    let mut file = plain::build_prelude_bytes(
         Settings {
             width: random.word32(),
             height: random.word32(),
@@ -193,7 +193,7 @@ pub const WORDS: [[u8; 4]; 11] = [
 
 /// Calls `each` on a good prelude followed by every list of up to `most` words, and by that with each of 1 to 3 bytes more.
 pub fn all_short(most: u32, mut each: impl FnMut(&[u8])) {
-    let prelude = plain::build_prelude(EXAMPLE_SETTINGS, 0);
+    let prelude = plain::build_prelude_bytes(EXAMPLE_SETTINGS, 0);
     let base = WORDS.len() as u32;
     for count in 0..=most {
         for list in 0..base.pow(count) {

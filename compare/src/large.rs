@@ -11,7 +11,7 @@ const LIMIT: usize = FILE_LIMIT as usize;
 /// A recording of exactly the limit: one frame that fills it. A byte more stands after it.
 fn full_recording() -> Vec<u8> {
     let mut file = vec![0; LIMIT + 1];
-    let prelude = plain::build_prelude(files::EXAMPLE_SETTINGS, 0);
+    let prelude = plain::build_prelude_bytes(files::EXAMPLE_SETTINGS, 0);
     file[..PRELUDE].copy_from_slice(&prelude);
     let length = LIMIT - PRELUDE - 16;
     file[PRELUDE..PRELUDE + 4].copy_from_slice(&VIDEO.to_le_bytes());

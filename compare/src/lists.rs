@@ -100,7 +100,7 @@ impl Side for OriginalSide<'_> {
 
     /// Stream 2 panics in the original: that stands for 42.
     fn seek(&mut self, stream: u32, request: i64) -> Said<2> {
-        match original::seek(self.records, &mut self.walker, stream, request) {
+        match original::seek_to_via_index(self.records, &mut self.walker, stream, request) {
             Told::Said(said) => said,
             Told::Panicked if stream > 1 => refused(42, 0),
             _ => refused(u32::MAX, 0),

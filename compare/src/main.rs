@@ -3,8 +3,9 @@
 //!     compare SEED COUNT
 //!     compare vectors FOLDER
 //!
-//! The short inputs run in full, then random rounds until COUNT comparisons are made. Each difference from the original is one of
-//! the rules, which stand in docs/DIFFERENCES.md, or it fails. The second form stores answers for the program `vectors`.
+//! The short inputs run in full, then the programs and the large files, then rounds of random inputs from SEED until COUNT comparisons are
+//! made in all; some rounds run even where COUNT is reached before. Each difference from the original is one of the rules, which stand in
+//! docs/DIFFERENCES.md, or it fails. The second form stores answers for the program `vectors`.
 
 // The declarations of the binding: one text, which a test holds against the header and the source.
 #[path = "../../bindings/rust/src/sys.rs"]
@@ -30,25 +31,29 @@ mod words;
 use std::process::ExitCode;
 use std::time::Instant;
 
-/// Some random rounds run however small COUNT is: they meet the rules that short inputs do not.
+/// So many random rounds run however small COUNT is: they meet the rules that short inputs do not.
 const LEAST_ROUNDS: u32 = 1000;
 
 fn main() -> ExitCode {
-    if let [_, mode, folder] = &std::env::args().collect::<Vec<_>>()[..] {
-        if mode == "vectors" {
-            quiet_panics();
+    let words: Vec<String> = std::env::args().skip(1).collect();
+    quiet_panics();
+    match &words[..] {
+        [mode, folder] if mode == "vectors" => {
             vectors::store(folder.as_ref());
-            return ExitCode::SUCCESS;
+            ExitCode::SUCCESS
+        }
+        [seed, count] => {
+            let number = |word: &str| word.parse().expect("SEED and COUNT are numbers");
+            compare(number(seed), number(count))
+        }
+        _ => {
+            eprintln!("usage: compare SEED COUNT, or compare vectors FOLDER");
+            ExitCode::from(2)
         }
     }
-    let mut arguments = std::env::args().skip(1);
-    let mut number = |default| {
-        arguments
-            .next()
-            .map_or(default, |word| word.parse().unwrap())
-    };
-    let (seed, count) = (number(1), number(10_000_000));
-    quiet_panics();
+}
+
+fn compare(seed: u64, count: u64) -> ExitCode {
     let started = Instant::now();
     let mut tally = tally::Tally::default();
     let mut random = random::Random(seed);

@@ -248,7 +248,12 @@ fn entry_of(record: &Record) -> ChunkIndexEntry {
 }
 
 /// The private seek over the records.
-pub fn seek(records: &[Record], walker: &mut Walker, stream: u32, request: i64) -> Told<2> {
+pub fn seek_to_via_index(
+    records: &[Record],
+    walker: &mut Walker,
+    stream: u32,
+    request: i64,
+) -> Told<2> {
     let mut demuxer = AmvDemuxer::over(Box::new(Cursor::new([])));
     demuxer.set_index(records.iter().map(entry_of).collect());
     demuxer.set_state(state_of(walker));
@@ -263,7 +268,7 @@ pub fn seek(records: &[Record], walker: &mut Walker, stream: u32, request: i64) 
 
 /// The public seek over the records. Its refusals have no number in 01: 42 stands for a stream that it does not know, and
 /// `NEGATIVE` for a request below 0.
-pub fn public_seek(records: &[Record], walker: &mut Walker, stream: u32, request: i64) -> Told<2> {
+pub fn seek_to(records: &[Record], walker: &mut Walker, stream: u32, request: i64) -> Told<2> {
     let mut demuxer = AmvDemuxer::over(Box::new(Cursor::new([])));
     demuxer.set_index(records.iter().map(entry_of).collect());
     demuxer.set_state(state_of(walker));
@@ -331,7 +336,7 @@ pub fn write(writer: &Writer, buf: &mut Vec<u8>, call: Write) -> Wrote {
     }
 }
 
-pub fn prelude_bytes(writer: &Writer, duration: u32) -> Vec<u8> {
+pub fn build_prelude_bytes(writer: &Writer, duration: u32) -> Vec<u8> {
     original::muxer::prelude_bytes(mux_state(writer), duration)
 }
 
@@ -352,7 +357,7 @@ pub fn records_by_value(file: Vec<u8>) -> Option<Vec<Record>> {
 }
 
 /// Whether `open` takes the settings.
-pub fn opens(settings: &Settings) -> bool {
+pub fn open(settings: &Settings) -> bool {
     let stream = |index, params| StreamInfo {
         index,
         time_base: TimeBase::new(1, 1),

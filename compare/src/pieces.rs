@@ -89,8 +89,8 @@ pub fn build_prelude_bytes(tally: &mut Tally, random: &mut Random) {
         channels: random.word32() as u16,
     };
     let duration = random.word32();
-    let ours = plain::build_prelude(settings, duration).to_vec();
-    let theirs = original::prelude_bytes(&plain::Writer::fresh(settings), duration);
+    let ours = plain::build_prelude_bytes(settings, duration).to_vec();
+    let theirs = original::build_prelude_bytes(&plain::Writer::fresh(settings), duration);
     tally.equal("build_prelude_bytes", ours, theirs, || {
         format!("{settings:?} {duration}")
     });

@@ -64,7 +64,7 @@ fn average(rate: u32) -> u32 {
     u32::try_from(2 * rate as u64).unwrap_or(u32::MAX)
 }
 
-pub fn build_prelude(settings: Settings, duration: u32) -> [u8; PRELUDE] {
+pub fn build_prelude_bytes(settings: Settings, duration: u32) -> [u8; PRELUDE] {
     let mut bytes = [0; PRELUDE];
     for (at, tag) in TAGS {
         bytes[at..at + 4].copy_from_slice(tag);
@@ -165,7 +165,7 @@ impl Writer {
     }
 
     pub fn put_header(&mut self, buf: &mut [u8]) {
-        buf[..PRELUDE].copy_from_slice(&build_prelude(self.settings, 0));
+        buf[..PRELUDE].copy_from_slice(&build_prelude_bytes(self.settings, 0));
         self.begun = true;
         self.written = PRELUDE as u64;
     }

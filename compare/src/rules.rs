@@ -99,7 +99,7 @@ pub fn next_packet(
 }
 
 /// Answer and walker of a seek.
-pub fn seek(
+pub fn seek_to_via_index(
     table: &[u8],
     given: Option<Walker>,
     stream: u32,
@@ -122,7 +122,7 @@ pub fn seek(
 }
 
 /// Answer and walker of the public seek: it refuses what the private one takes or panics at, and then changes nothing.
-pub fn public_seek(
+pub fn seek_to(
     stream: u32,
     request: i64,
     walker: Walker,
@@ -138,7 +138,7 @@ pub fn public_seek(
 }
 
 /// Whether `open` takes the settings: 01's writer takes all.
-pub fn opens(settings: &Settings) -> Expected<bool> {
+pub fn open(settings: &Settings) -> Expected<bool> {
     let zero = [settings.width, settings.height, settings.fps, settings.rate].contains(&0);
     if zero || settings.channels != 1 {
         Expected::by(OPEN, false)
@@ -181,7 +181,7 @@ pub fn write(given: &Writer, buf: &[u8], call: Write) -> Expected<(Wrote, Vec<u8
 /// The frame counts, and what fits is written.
 fn failed_write(given: &Writer, buf: &[u8], call: Write) -> (Wrote, Vec<u8>) {
     let (at, text) = match call {
-        Write::Header => (0, plain::build_prelude(given.settings, 0).to_vec()),
+        Write::Header => (0, plain::build_prelude_bytes(given.settings, 0).to_vec()),
         Write::Packet(payload, stream) => (
             given.written,
             [&plain::packet_head(payload, stream), payload].concat(),

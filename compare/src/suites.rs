@@ -241,7 +241,7 @@ fn tables(tally: &mut Tally, random: &mut Random) {
         };
         calls::seek_to_via_index(tally, table, &mut walker, stream, request);
         if let Some(walker) = words::walker_of(&walker) {
-            calls::public_seek(tally, table, walker, stream, request);
+            calls::seek_to(tally, table, walker, stream, request);
         }
     }
 }
@@ -282,7 +282,7 @@ fn writers(tally: &mut Tally, random: &mut Random) {
     for _ in 0..3 {
         let given = random_writer(random, room);
         if let Some(writer) = words::writer_of(&given) {
-            calls::opens(tally, &writer.settings);
+            calls::open(tally, &writer.settings);
         }
         let payload = files::payload(random);
         let stream = if random.once_in(8) {

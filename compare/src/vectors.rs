@@ -21,7 +21,7 @@ const WRITE_HEADER: (u8, &str) = (4, "write_header");
 const WRITE_PACKET: (u8, &str) = (5, "write_packet");
 const WRITE_TRAILER: (u8, &str) = (6, "write_trailer");
 const SEEK_TO_VIA_INDEX: (u8, &str) = (7, "seek_to_via_index");
-const INTERLEAVE: (u8, &str) = (8, "interleave");
+const VALIDATE_MOVI_INTERLEAVE: (u8, &str) = (8, "interleave");
 const FROM_FRAME_COUNT: (u8, &str) = (9, "from_frame_count");
 const SUMMARY: (u8, &str) = (10, "summary");
 const CHECK: (u8, &str) = (11, "check");
@@ -36,7 +36,7 @@ const FUNCTIONS: [(u8, &str); 12] = [
     WRITE_HEADER,
     WRITE_PACKET,
     WRITE_TRAILER,
-    INTERLEAVE,
+    VALIDATE_MOVI_INTERLEAVE,
     FROM_FRAME_COUNT,
     SUMMARY,
     CHECK,
@@ -192,7 +192,13 @@ fn request_words(request: i64) -> [u64; 2] {
     }
 }
 
-fn seek(cases: &mut Cases, table: &[u8], given: WalkerWords, stream: u32, request: i64) {
+fn seek_to_via_index(
+    cases: &mut Cases,
+    table: &[u8],
+    given: WalkerWords,
+    stream: u32,
+    request: i64,
+) {
     let mut after = given;
     let plain = words::seek_to_via_index(table, &mut after, stream, request);
     if plain.number != 0 {
@@ -200,7 +206,7 @@ fn seek(cases: &mut Cases, table: &[u8], given: WalkerWords, stream: u32, reques
         return;
     }
     let mut state = words::walker_of(&given).unwrap();
-    let told = original::seek(&plain::read_table(table), &mut state, stream, request);
+    let told = original::seek_to_via_index(&plain::read_table(table), &mut state, stream, request);
     let said = answer(told, plain).expect("a seek of stream 0 or 1 does not panic");
     let [request, mark] = request_words(request);
     let call = Call {
@@ -261,12 +267,12 @@ fn write(cases: &mut Cases, given: WriterWords, buf: &[u8], call: Write) {
     cases.add(call, wrote.number.into(), &words, &after);
 }
 
-fn interleave(cases: &mut Cases, tags: &[u32]) {
+fn validate_movi_interleave(cases: &mut Cases, tags: &[u32]) {
     let plain = words::validate_movi_interleave(tags);
     let said = answer(original::validate_movi_interleave(tags), plain).unwrap();
     let bytes: Vec<u8> = tags.iter().flat_map(|tag| tag.to_le_bytes()).collect();
     let call = Call {
-        function: INTERLEAVE,
+        function: VALIDATE_MOVI_INTERLEAVE,
         bytes: &bytes,
         lent: &[],
         parameters: [0; 3],
@@ -324,7 +330,11 @@ fn preludes(cases: &mut Cases) {
             rate,
             ..EXAMPLE_SETTINGS
         };
-        parse(cases, &plain::build_prelude(settings, 0x0102_0304), true);
+        parse(
+            cases,
+            &plain::build_prelude_bytes(settings, 0x0102_0304),
+            true,
+        );
     }
 }
 
@@ -364,7 +374,7 @@ fn jumps(cases: &mut Cases) {
         let table: Vec<u8> = records.iter().flat_map(plain::Record::bytes).collect();
         for stream in [0, 1] {
             for request in [i64::MIN, -1, 0, 1, 2, i64::MAX] {
-                seek(
+                seek_to_via_index(
                     cases,
                     &table,
                     if request == 1 { elsewhere } else { fresh },
@@ -383,7 +393,7 @@ fn jumps(cases: &mut Cases) {
     }
     .bytes();
     for request in [i64::MAX, (plain::COUNT_LIMIT - 1) as i64] {
-        seek(cases, &largest, fresh, 1, request);
+        seek_to_via_index(cases, &largest, fresh, 1, request);
     }
 }
 
@@ -450,13 +460,13 @@ fn writes(cases: &mut Cases) {
 fn tags(cases: &mut Cases) {
     let other = u32::from_le_bytes(*b"00db");
     let kinds = [VIDEO, AUDIO, other];
-    interleave(cases, &[]);
+    validate_movi_interleave(cases, &[]);
     for a in kinds {
-        interleave(cases, &[a]);
+        validate_movi_interleave(cases, &[a]);
         for b in kinds {
-            interleave(cases, &[a, b]);
+            validate_movi_interleave(cases, &[a, b]);
             for c in kinds {
-                interleave(cases, &[a, b, c]);
+                validate_movi_interleave(cases, &[a, b, c]);
             }
         }
     }

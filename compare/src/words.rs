@@ -137,8 +137,8 @@ pub fn read_words(read: Read) -> [u64; 6] {
     }
 }
 
-pub fn next_packet(file: &[u8], words: &mut WalkerWords) -> Said<7> {
-    with_walker(words, |walker| {
+pub fn next_packet(file: &[u8], walker: &mut WalkerWords) -> Said<7> {
+    with_walker(walker, |walker| {
         plain::next_packet(file, walker).map(read_words)
     })
 }
@@ -149,11 +149,11 @@ pub fn build_chunk_index(file: &[u8], table: &mut [u8]) -> Said<2> {
 
 pub fn seek_to_via_index(
     table: &[u8],
-    words: &mut WalkerWords,
+    walker: &mut WalkerWords,
     stream: u32,
     request: i64,
 ) -> Said<2> {
-    with_walker(words, |walker| {
+    with_walker(walker, |walker| {
         plain::seek_to_via_index(table, walker, stream, request).map(|stamp| [stamp])
     })
 }

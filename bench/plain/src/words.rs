@@ -52,17 +52,17 @@ fn walker_words(walker: &Walker) -> [u64; 7] {
 pub extern "C" fn next_packet(
     file: *const u8,
     len: usize,
-    words: &mut [u64; 7],
+    walker: &mut [u64; 7],
     out: &mut [u64; 7],
 ) -> u32 {
     let file = unsafe { slice(file, len) };
-    let Some(mut walker) = walker_of(words) else {
+    let Some(mut state) = walker_of(walker) else {
         return bad_word(out);
     };
-    match crate::next_packet(file, &mut walker) {
+    match crate::next_packet(file, &mut state) {
         Err(refusal) => number(refusal, out),
         Ok(read) => {
-            *words = walker_words(&walker);
+            *walker = walker_words(&state);
             *out = read.map_or([0; 7], |packet| {
                 [
                     0,
@@ -101,19 +101,19 @@ pub extern "C" fn build_chunk_index(
 pub extern "C" fn seek_to_via_index(
     table: *const u8,
     table_len: usize,
-    words: &mut [u64; 7],
+    walker: &mut [u64; 7],
     stream: u32,
     request: i64,
     out: &mut [u64; 2],
 ) -> u32 {
     let table = unsafe { slice(table, table_len) };
-    let Some(mut walker) = walker_of(words) else {
+    let Some(mut state) = walker_of(walker) else {
         return bad_word(out);
     };
-    match crate::seek_to_via_index(table, &mut walker, stream, request) {
+    match crate::seek_to_via_index(table, &mut state, stream, request) {
         Err(refusal) => number(refusal, out),
         Ok(stamp) => {
-            *words = walker_words(&walker);
+            *walker = walker_words(&state);
             *out = [0, stamp];
             0
         }
@@ -179,18 +179,18 @@ fn write(
 
 #[inline(never)]
 pub extern "C" fn write_header(
-    words: &mut [u64; 9],
+    writer: &mut [u64; 9],
     buf: *mut u8,
     len: usize,
     out: &mut [u64; 1],
 ) -> u32 {
     let buf = unsafe { slice_mut(buf, len) };
-    write(words, out, |writer| writer.write_header(buf))
+    write(writer, out, |state| state.write_header(buf))
 }
 
 #[inline(never)]
 pub extern "C" fn write_packet(
-    words: &mut [u64; 9],
+    writer: &mut [u64; 9],
     buf: *mut u8,
     len: usize,
     payload: *const u8,
@@ -199,20 +199,20 @@ pub extern "C" fn write_packet(
     out: &mut [u64; 1],
 ) -> u32 {
     let (buf, payload) = unsafe { (slice_mut(buf, len), slice(payload, payload_len)) };
-    write(words, out, |writer| {
-        writer.write_packet(buf, payload, stream)
+    write(writer, out, |state| {
+        state.write_packet(buf, payload, stream)
     })
 }
 
 #[inline(never)]
 pub extern "C" fn write_trailer(
-    words: &mut [u64; 9],
+    writer: &mut [u64; 9],
     buf: *mut u8,
     len: usize,
     out: &mut [u64; 1],
 ) -> u32 {
     let buf = unsafe { slice_mut(buf, len) };
-    write(words, out, |writer| writer.write_trailer(buf))
+    write(writer, out, |state| state.write_trailer(buf))
 }
 
 /// SAFETY: `len` bytes are lent at `start`; where there are none it may be NULL.

@@ -1,7 +1,8 @@
 //! AMV recordings: a safe wrapper of the proved library, with the names of the Rust original.
 //!
 //! Every answer comes from the library, whose contracts are proved; this crate only carries slices and words over.
-//! A refusal is a number and a place, as document 01 fixes them; `include/amv.h` has the table of numbers.
+//! A refusal is a number and a place, as document 01 fixes them; `include/amv.h` has the table of numbers. Arguments stand in the order
+//! that they have there, with what a method holds left out. A refused call changes nothing.
 
 use std::fmt;
 
@@ -10,7 +11,9 @@ pub mod sys;
 /// Why a call was refused: the number of the question, and the place where it was asked.
 #[derive(Clone, Copy, Debug, PartialEq, Eq)]
 pub struct AmvError {
+    /// The number of the question that was answered with no.
     pub number: u32,
+    /// A byte offset, or what the table of numbers says.
     pub place: u64,
 }
 
@@ -22,9 +25,10 @@ impl fmt::Display for AmvError {
 
 impl std::error::Error for AmvError {}
 
+/// What a call gives, or its refusal.
 pub type Result<T> = std::result::Result<T, AmvError>;
 
-/// A call's number and its words: the words after the place where it was accepted.
+/// A call's words where it was accepted, else its refusal, whose place is the first word.
 fn answer<const N: usize>(number: u32, out: [u64; N]) -> Result<[u64; N]> {
     match number {
         0 => Ok(out),
@@ -35,40 +39,62 @@ fn answer<const N: usize>(number: u32, out: [u64; N]) -> Result<[u64; N]> {
     }
 }
 
+/// The fields of a file's header, as they stand in it.
 #[derive(Clone, Copy, Debug, PartialEq, Eq)]
 pub struct AmvHeader {
+    /// Microseconds a frame; 1,000,000 / fps in a file that is strictly right.
     pub micros_per_frame: u32,
+    /// Pixels in a row.
     pub width: u32,
+    /// Rows.
     pub height: u32,
+    /// Frames a second.
     pub fps: u32,
+    /// 1 in a file that is strictly right.
     pub flag_one: u32,
+    /// 0 in a file that is strictly right.
     pub reserved_30: u32,
+    /// The run length: seconds, minutes times 256, hours times 65536.
     pub duration_packed: u32,
 }
 
+/// The fields of a file's sound format, as they stand in it. A device fixes all but the rate.
 #[derive(Clone, Copy, Debug, PartialEq, Eq)]
 pub struct AmvWaveFormat {
+    /// The format's number; 1.
     pub format_tag: u16,
+    /// Channels; 1.
     pub channels: u16,
+    /// Samples a second, the rate.
     pub samples_per_sec: u32,
+    /// Bytes a second; twice the rate.
     pub avg_bytes_per_sec: u32,
+    /// The align; 2.
     pub block_align: u16,
+    /// Bits of a sample; 16.
     pub bits_per_sample: u16,
+    /// 0.
     pub cb_size: u16,
 }
 
+/// The 316 bytes at the start of a file.
 #[derive(Clone, Copy, Debug, PartialEq, Eq)]
 pub struct AmvPrelude {
+    /// The picture's fields.
     pub header: AmvHeader,
+    /// The sound's fields.
     pub audio_format: AmvWaveFormat,
+    /// The offset of the first chunk.
     pub movi_payload_start: u64,
 }
 
 impl AmvPrelude {
+    /// The prelude of a file whose layout is right. Refuses with 10 to 13.
     pub fn parse(file: &[u8]) -> Result<AmvPrelude> {
         AmvPrelude::parse_with(file, false)
     }
 
+    /// The same, of a file that also has every field as a device fixes it. Refuses with 10 to 24.
     pub fn parse_strict(file: &[u8]) -> Result<AmvPrelude> {
         AmvPrelude::parse_with(file, true)
     }
@@ -101,13 +127,16 @@ impl AmvPrelude {
     }
 }
 
-/// A packet; its data is a part of the file.
+/// A packet.
 #[derive(Clone, Copy, Debug, PartialEq, Eq)]
 pub struct Packet<'a> {
     /// 0 for pictures, 1 for sound.
     pub stream_index: u32,
+    /// Its payload, a part of the file.
     pub data: &'a [u8],
+    /// Its stamp: the frames or the samples before it.
     pub pts: u64,
+    /// Its frames or samples; none where a block has no samples.
     pub duration: Option<u64>,
 }
 
@@ -117,23 +146,32 @@ pub struct ChunkIndex {
     records: Vec<u8>,
 }
 
-/// One record: a chunk's tag and offset, and the frames, blocks and samples before it.
+/// One record.
 #[derive(Clone, Copy, Debug, PartialEq, Eq)]
 pub struct ChunkIndexEntry {
+    /// The chunk's tag as a number, little-endian.
     pub tag: u32,
-    pub offset: u32,
-    pub frames: u32,
-    pub blocks: u32,
-    pub samples: u64,
+    /// The chunk's offset in the file.
+    pub file_offset: u32,
+    /// The frames before it.
+    pub video_pts_before: u32,
+    /// The blocks before it.
+    pub audio_blocks_before: u32,
+    /// The samples before it.
+    pub audio_pts_before: u64,
+}
+
+impl ChunkIndexEntry {
+    /// The bytes of a record.
+    pub const LEN: usize = 24;
 }
 
 impl ChunkIndex {
-    pub const ENTRY_LEN: usize = 24;
-
+    /// The index of a file. Refuses with 10 and 31.
     pub fn build(file: &[u8]) -> Result<ChunkIndex> {
         let counts = summary(file)?;
         let count = (counts.frames + counts.blocks) as usize;
-        let mut records = vec![0; count * ChunkIndex::ENTRY_LEN];
+        let mut records = vec![0; count * ChunkIndexEntry::LEN];
         let mut out = [0; 2];
         let number = unsafe {
             sys::amv_build_chunk_index(
@@ -147,26 +185,28 @@ impl ChunkIndex {
         answer(number, out).map(|_| ChunkIndex { records })
     }
 
-    /// Records from elsewhere; a jump over them asks whether they are good.
+    /// Records from elsewhere, taken as they are: a jump over them asks whether they are good.
     pub fn from_records(records: Vec<u8>) -> ChunkIndex {
         ChunkIndex { records }
     }
 
+    /// The bytes of all records.
     pub fn records(&self) -> &[u8] {
         &self.records
     }
 
+    /// The records one by one; bytes that are no whole record at the end are left out.
     pub fn entries(&self) -> impl Iterator<Item = ChunkIndexEntry> + '_ {
         let word =
             |r: &[u8], at: usize| u32::from_le_bytes([r[at], r[at + 1], r[at + 2], r[at + 3]]);
         self.records
-            .chunks_exact(ChunkIndex::ENTRY_LEN)
+            .chunks_exact(ChunkIndexEntry::LEN)
             .map(move |r| ChunkIndexEntry {
                 tag: word(r, 0),
-                offset: word(r, 4),
-                frames: word(r, 8),
-                blocks: word(r, 12),
-                samples: word(r, 16) as u64 | (word(r, 20) as u64) << 32,
+                file_offset: word(r, 4),
+                video_pts_before: word(r, 8),
+                audio_blocks_before: word(r, 12),
+                audio_pts_before: word(r, 16) as u64 | (word(r, 20) as u64) << 32,
             })
     }
 }
@@ -190,10 +230,12 @@ pub struct AmvDemuxer<'a> {
 }
 
 impl<'a> AmvDemuxer<'a> {
+    /// A reader at the first chunk of a file whose layout is right. Refuses with 10 to 13.
     pub fn open(file: &'a [u8]) -> Result<AmvDemuxer<'a>> {
         AmvPrelude::parse(file).map(|prelude| AmvDemuxer::over(file, prelude))
     }
 
+    /// The same, of a file that also has every field as a device fixes it. Refuses with 10 to 24.
     pub fn open_strict(file: &'a [u8]) -> Result<AmvDemuxer<'a>> {
         AmvPrelude::parse_strict(file).map(|prelude| AmvDemuxer::over(file, prelude))
     }
@@ -207,15 +249,18 @@ impl<'a> AmvDemuxer<'a> {
         }
     }
 
+    /// The header of the file.
     pub fn header(&self) -> &AmvHeader {
         &self.prelude.header
     }
 
+    /// The sound format of the file.
     pub fn audio_format(&self) -> &AmvWaveFormat {
         &self.prelude.audio_format
     }
 
-    /// The next packet, or none at the end.
+    /// The next packet, or none at the end. Refuses with 31 at an unknown chunk, and with 32 where foreign records led to counts that are
+    /// too large.
     pub fn next_packet(&mut self) -> Result<Option<Packet<'a>>> {
         let mut out = [0; 7];
         let number = unsafe {
@@ -239,17 +284,19 @@ impl<'a> AmvDemuxer<'a> {
         }))
     }
 
+    /// Builds the index of the file and keeps it. Refuses with 31, and then keeps what it had.
     pub fn build_chunk_index(&mut self) -> Result<()> {
         self.index = Some(ChunkIndex::build(self.file)?);
         Ok(())
     }
 
+    /// The index, once it is built.
     pub fn chunk_index(&self) -> Option<&ChunkIndex> {
         self.index.as_ref()
     }
 
-    /// Jumps to the first chunk of a stream stamped at or after the request, or to the end; answers the stamp. The index is built if it
-    /// is not there yet.
+    /// Jumps to the first chunk of a stream stamped at or after the request, or to the end; gives the stream's stamp there. The index is
+    /// built if it is not there yet. Refuses with 31 where it cannot be built, and with 42 and 32.
     pub fn seek_to(&mut self, stream_index: u32, requested_pts: i64) -> Result<u64> {
         if self.index.is_none() {
             self.build_chunk_index()?;
@@ -260,6 +307,7 @@ impl<'a> AmvDemuxer<'a> {
         sought
     }
 
+    /// The same over an index that is given. Refuses with 41, 42, 43 and 32.
     pub fn seek_to_via_index(
         &mut self,
         index: &ChunkIndex,
@@ -285,48 +333,60 @@ impl<'a> AmvDemuxer<'a> {
         self.walker[CURSOR]
     }
 
+    /// The frames before the next chunk.
     pub fn video_frames_emitted(&self) -> u64 {
         self.walker[FRAMES]
     }
 
+    /// The samples before the next chunk.
     pub fn audio_samples_emitted(&self) -> u64 {
         self.walker[SAMPLES]
     }
 
+    /// The blocks before the next chunk.
     pub fn audio_blocks_emitted(&self) -> u64 {
         self.walker[BLOCKS]
     }
 
+    /// Whether there are as many frames as blocks before the next chunk.
     pub fn movi_interleave_balanced(&self) -> bool {
         self.walker[FRAMES] == self.walker[BLOCKS]
     }
 
+    /// Whether the reader stands at the end: a read gives none.
     pub fn is_at_end(&self) -> bool {
         self.walker[END] == 1
     }
 
-    /// Whether a read met the end of the file inside a chunk.
+    /// Whether a read has found that the file ends, at a chunk or inside one, before its trailer.
     pub fn is_truncated(&self) -> bool {
         self.walker[CUT] == 1
     }
 
+    /// The offset of the trailer, once a read has met it.
     pub fn trailer_offset(&self) -> Option<u64> {
         (self.walker[TRAILER] != u64::MAX).then_some(self.walker[TRAILER])
     }
 
-    /// Whether the trailer that was met ends the file.
-    pub fn trailer_matches_eof(&self) -> Option<bool> {
+    /// Whether the trailer that was met ends a file of that length; none before it is met.
+    pub fn trailer_matches_eof(&self, stream_len: u64) -> Option<bool> {
         self.trailer_offset()
-            .map(|offset| offset + 8 == self.file.len() as u64)
+            .map(|offset| stream_len.checked_sub(8) == Some(offset))
     }
 }
 
+/// What a writer puts into the prelude. A finished recording needs fps above 0 and one channel; no value is refused.
 #[derive(Clone, Copy, Debug, PartialEq, Eq)]
 pub struct Settings {
+    /// Pixels in a row.
     pub width: u32,
+    /// Rows.
     pub height: u32,
+    /// Frames a second.
     pub fps: u32,
+    /// Samples a second.
     pub rate: u32,
+    /// Channels.
     pub channels: u16,
 }
 
@@ -338,6 +398,7 @@ pub struct AmvMuxer<'a> {
 }
 
 impl<'a> AmvMuxer<'a> {
+    /// A writer that has written nothing.
     pub fn new(settings: Settings, buf: &'a mut [u8]) -> AmvMuxer<'a> {
         let s = settings;
         AmvMuxer {
@@ -356,6 +417,7 @@ impl<'a> AmvMuxer<'a> {
         }
     }
 
+    /// Writes the prelude; the first call. Refuses with 50, 55 and 54.
     pub fn write_header(&mut self) -> Result<()> {
         let mut out = [0; 1];
         let number = unsafe {
@@ -369,7 +431,8 @@ impl<'a> AmvMuxer<'a> {
         answer(number, out).map(|_| ())
     }
 
-    pub fn write_packet(&mut self, stream_index: u32, data: &[u8]) -> Result<()> {
+    /// Writes a packet after what is written: stream 0 is a picture, stream 1 is sound. Refuses with 51, 55, 56, 52, 53 and 54.
+    pub fn write_packet(&mut self, data: &[u8], stream_index: u32) -> Result<()> {
         let mut out = [0; 1];
         let number = unsafe {
             sys::amv_write_packet(
@@ -385,6 +448,7 @@ impl<'a> AmvMuxer<'a> {
         answer(number, out).map(|_| ())
     }
 
+    /// Writes the trailer, and the run length into the prelude; the last call. Refuses with 51, 55, 56 and 54.
     pub fn write_trailer(&mut self) -> Result<()> {
         let mut out = [0; 1];
         let number = unsafe {
@@ -398,10 +462,12 @@ impl<'a> AmvMuxer<'a> {
         answer(number, out).map(|_| ())
     }
 
+    /// The bytes of the file so far.
     pub fn bytes_written(&self) -> u64 {
         self.writer[7]
     }
 
+    /// The pictures of the file so far.
     pub fn frames_written(&self) -> u64 {
         self.writer[8]
     }
@@ -412,17 +478,23 @@ impl<'a> AmvMuxer<'a> {
     }
 }
 
-/// What the check answers of a finished recording.
+/// What the check gives of a finished recording.
 #[derive(Clone, Copy, Debug, PartialEq, Eq)]
 pub struct Totals {
+    /// Its pictures.
     pub frames: u64,
+    /// Its blocks of sound.
     pub blocks: u64,
+    /// The samples of all blocks.
     pub samples: u64,
+    /// The offset of the trailer.
     pub trailer: u64,
+    /// Whether pictures and sound alternate, a picture first and as many of each.
     pub paired: bool,
 }
 
-/// Whether a file is a finished recording.
+/// The totals of a finished recording: the strict prelude, whole chunks, the trailer, and nothing after it. Refuses with 10 to 24, 60, 61
+/// and 31.
 pub fn check(file: &[u8]) -> Result<Totals> {
     let mut out = [0; 6];
     let number = unsafe { sys::amv_check(file.as_ptr(), file.len(), &mut out) };
@@ -438,10 +510,13 @@ pub fn check(file: &[u8]) -> Result<Totals> {
 /// The records that a file's index has, by kind.
 #[derive(Clone, Copy, Debug, PartialEq, Eq)]
 pub struct ChunkCounts {
+    /// The pictures.
     pub frames: u64,
+    /// The blocks of sound.
     pub blocks: u64,
 }
 
+/// How many pictures and blocks a file has, by its index walk: a file that is cut counts as far as it goes. Refuses with 10 and 31.
 pub fn summary(file: &[u8]) -> Result<ChunkCounts> {
     let mut out = [0; 3];
     let number = unsafe { sys::amv_summary(file.as_ptr(), file.len(), &mut out) };
@@ -451,11 +526,12 @@ pub fn summary(file: &[u8]) -> Result<ChunkCounts> {
     })
 }
 
-/// Tags as numbers, little-endian.
+/// The tag of a picture as a number, little-endian.
 pub const VIDEO_CHUNK_TAG: u32 = u32::from_le_bytes(*b"00dc");
+/// The tag of sound as a number, little-endian.
 pub const AUDIO_CHUNK_TAG: u32 = u32::from_le_bytes(*b"01wb");
 
-/// Whether pictures and sound alternate, a picture first, and in pairs.
+/// Accepts tags that alternate, a picture first and as many of each. Refuses with 62 to 65; the place is a position among the tags.
 pub fn validate_movi_interleave(tags: &[u32]) -> Result<()> {
     let mut out = [0; 1];
     let number = unsafe { sys::amv_validate_movi_interleave(tags.as_ptr(), tags.len(), &mut out) };
@@ -465,12 +541,16 @@ pub fn validate_movi_interleave(tags: &[u32]) -> Result<()> {
 /// A run length as the prelude has it.
 #[derive(Clone, Copy, Debug, PartialEq, Eq)]
 pub struct AmvDuration {
+    /// Below 60.
     pub seconds: u8,
+    /// At most 255.
     pub minutes: u8,
+    /// At most 255.
     pub hours: u8,
 }
 
 impl AmvDuration {
+    /// The run length of a number of frames; zeros for fps 0. Never refuses.
     pub fn from_frame_count(frame_count: u64, fps: u32) -> AmvDuration {
         let [seconds, minutes, hours, _] =
             unsafe { sys::amv_from_frame_count(frame_count, fps) }.to_le_bytes();

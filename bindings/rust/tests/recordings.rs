@@ -35,7 +35,7 @@ fn write(packets: &[(u32, Vec<u8>)]) -> Vec<u8> {
     let mut muxer = AmvMuxer::new(SETTINGS, &mut buf);
     muxer.write_header().unwrap();
     for (stream, data) in packets {
-        muxer.write_packet(*stream, data).unwrap();
+        muxer.write_packet(data, *stream).unwrap();
     }
     muxer.write_trailer().unwrap();
     muxer.file().to_vec()
@@ -62,9 +62,9 @@ fn small() -> Vec<u8> {
     let mut buf = vec![0; 353];
     let mut muxer = AmvMuxer::new(settings, &mut buf);
     muxer.write_header().unwrap();
-    muxer.write_packet(0, &[1, 2, 3]).unwrap();
+    muxer.write_packet(&[1, 2, 3], 0).unwrap();
     muxer
-        .write_packet(1, &[0, 0, 0, 0, 2, 0, 0, 0, 9, 9])
+        .write_packet(&[0, 0, 0, 0, 2, 0, 0, 0, 9, 9], 1)
         .unwrap();
     muxer.write_trailer().unwrap();
     assert_eq!(muxer.bytes_written(), 353);
@@ -88,7 +88,7 @@ fn what_is_written_is_read() {
     );
     assert_eq!(read[1].duration, Some(10));
     assert_eq!(demuxer.trailer_offset(), Some(file.len() as u64 - 8));
-    assert_eq!(demuxer.trailer_matches_eof(), Some(true));
+    assert_eq!(demuxer.trailer_matches_eof(file.len() as u64), Some(true));
     assert!(demuxer.movi_interleave_balanced() && !demuxer.is_truncated());
     let totals = check(&file).unwrap();
     assert_eq!(
@@ -207,21 +207,21 @@ fn a_refused_call_writes_nothing() {
         })
     );
     assert_eq!(
-        muxer.write_packet(2, &[]),
+        muxer.write_packet(&[], 2),
         Err(AmvError {
             number: 53,
             place: 316
         })
     );
     assert_eq!(
-        muxer.write_packet(0, &[1; 7]),
+        muxer.write_packet(&[1; 7], 0),
         Err(AmvError {
             number: 54,
             place: 316
         })
     );
     assert_eq!((muxer.bytes_written(), muxer.frames_written()), (316, 0));
-    muxer.write_packet(0, &[1; 6]).unwrap();
+    muxer.write_packet(&[1; 6], 0).unwrap();
     assert_eq!(
         muxer.write_trailer(),
         Err(AmvError {
@@ -252,17 +252,17 @@ fn the_other_calls() {
         [
             ChunkIndexEntry {
                 tag: VIDEO_CHUNK_TAG,
-                offset: 316,
-                frames: 0,
-                blocks: 0,
-                samples: 0
+                file_offset: 316,
+                video_pts_before: 0,
+                audio_blocks_before: 0,
+                audio_pts_before: 0
             },
             ChunkIndexEntry {
                 tag: AUDIO_CHUNK_TAG,
-                offset: 327,
-                frames: 1,
-                blocks: 0,
-                samples: 0
+                file_offset: 327,
+                video_pts_before: 1,
+                audio_blocks_before: 0,
+                audio_pts_before: 0
             },
         ]
     );

@@ -75,7 +75,7 @@ fn next_packet(
 }
 
 /// A jump of a stream to a request, and the walker after it.
-fn seek(
+fn seek_to_via_index(
     cases: &mut Cases,
     table: &[u8],
     given: WalkerWords,
@@ -436,10 +436,10 @@ fn indexes_and_jumps(cases: &mut Cases) {
 
     let index = index_of((b"00dc", 0), (b"01wb", 0));
     for (walker, number) in bad_walkers() {
-        seek(cases, &index, walker, (0, 0), refused(number, 0), walker);
+        seek_to_via_index(cases, &index, walker, (0, 0), refused(number, 0), walker);
     }
     for length in [1, 23, 25, 47] {
-        seek(
+        seek_to_via_index(
             cases,
             &index[..length],
             FRESH,
@@ -449,8 +449,8 @@ fn indexes_and_jumps(cases: &mut Cases) {
         );
     }
     for stream in [2, 4_294_967_295] {
-        seek(cases, &index, FRESH, (stream, 0), refused(42, 0), FRESH);
-        seek(cases, &[], FRESH, (stream, 0), refused(42, 0), FRESH);
+        seek_to_via_index(cases, &index, FRESH, (stream, 0), refused(42, 0), FRESH);
+        seek_to_via_index(cases, &[], FRESH, (stream, 0), refused(42, 0), FRESH);
     }
     for (first, second, place) in [
         ((b"00db", 0), (b"01wb", 0), 0),
@@ -461,7 +461,7 @@ fn indexes_and_jumps(cases: &mut Cases) {
         ((b"AMV_", 0), (b"01wb", 18_446_744_073_709_551_615), 0),
     ] {
         let index = index_of(first, second);
-        seek(cases, &index, FRESH, (0, 0), refused(43, place), FRESH);
+        seek_to_via_index(cases, &index, FRESH, (0, 0), refused(43, place), FRESH);
     }
     // The order 1, 41, 42, 43, 32: what is asked later has the answer no as well.
     let bad = index_of((b"00dc", 0), (b"01wc", 0));
@@ -474,7 +474,7 @@ fn indexes_and_jumps(cases: &mut Cases) {
         (&index, over, 1, 32, 0),
     ] {
         let stated = refused(number, place);
-        seek(cases, table, walker, (stream, 0), stated, walker);
+        seek_to_via_index(cases, table, walker, (stream, 0), stated, walker);
     }
     // All four counts at 2^62; the stamp that is returned, and the walker after it.
     let most = [MOST, MOST, MOST, MOST, 0, 1, 7];
@@ -486,7 +486,7 @@ fn indexes_and_jumps(cases: &mut Cases) {
         (&[], (0, 0), MOST, [MOST, MOST, MOST, MOST, 1, 1, 7]),
         (&[], (1, 0), MOST, [MOST, MOST, MOST, MOST, 1, 1, 7]),
     ] {
-        seek(cases, table, most, asked, accepted(&[stamp]), after);
+        seek_to_via_index(cases, table, most, asked, accepted(&[stamp]), after);
     }
 }
 

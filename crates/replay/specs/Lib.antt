@@ -1,1 +1,2 @@
 pub mod Replay
+pub mod Steps

@@ -1,19 +1,16 @@
 -- A list of reads and seeks as numbers, its answers as numbers, and the claim about them. Assumes nothing.
 use mathlib.Core.Path.{_≡_}
-use Prim.Native.Nat.{ℕ, zero, suc, _+_, _*_, _≤_, _<_}
-use mathlib.Core.Bool.{Bool, true, false, cond, _&&_}
-use mathlib.Core.List.{List, [], _∷_, _++_}
+use Prim.Native.Nat.{ℕ, _+_, _*_, _≤_, _<_}
+use mathlib.Core.Bool.{Bool, true, false, cond}
+use mathlib.Core.List.{List, [], _∷_}
 use lib.Dec.{eqb}
 use lib.IntN.{ℤ, pos}
 use lib.ListN.{length, getD}
 use mathlib.Core.Option.{Option, none, some}
 use Rattle.error.specs.Answer.{Answer, accepted, refused, numbered}
-use Rattle.error.specs.Refusal.{refusalOf}
 use Rattle.fields.specs.Le.{put}
-use Rattle.demuxer.specs.Packet.{shownOf, ticks}
+use Rattle.demuxer.specs.Packet.{shownOf}
 use Rattle.demuxer.specs.Read.{ReadAnswer, packet, End, fresh}
-use Rattle.demuxer.specs.declared.walker.NextPacket.{NextPacket}
-use Rattle.demuxer.specs.declared.walker.NextPacket.the-variants as next
 use Rattle.demuxer.specs.Read as read-answer
 use Rattle.demuxer.specs.declared.walker.Walker.{Walker}
 use Rattle.demuxer.specs.declared.packet.PacketDuration.{PacketDuration}
@@ -21,22 +18,21 @@ use Rattle.demuxer.specs.declared.packet.PacketDuration.the-variants.{Ticks, No
 use Rattle.chunk_index.specs.Chunks.{Chunk}
 use Rattle.recording.specs.Grammar.{Finished}
 use Rattle.recording.specs.Machine.{Call, read, seek, CallAnswer, readAnswer, seekAnswer, call, answers, after, Agreed, OwnIndex}
+use Rattle.rows.specs.Rows.{oneLength, callsFrom, Step, rowsOf, numbers, rowsIn}
 use Rattle.replay.specs.declared.Row.{Row}
-use Rattle.replay.specs.declared.Ran.{Ran}
-use Rattle.replay.specs.declared.Ran.the-variants.{Done, Unequal, NoRoom}
+use Rattle.replay.specs.declared.CallsResult.{CallsResult}
+use Rattle.replay.specs.declared.CallsResult.the-variants.{Done, Unequal, NoRoom}
 
 -- a call as numbers: its kind, 0 for a read, and for a seek its stream and request
 abbrev pub callOf : ℕ → ℕ → ℤ → Call
 callOf kind stream request = cond (eqb kind 0) read (seek stream request)
 
--- n calls, from a number on
-unfoldable pub callsFrom : List ℕ → List ℕ → List ℤ → ℕ → ℕ → List Call
-callsFrom kinds streams requests at zero = []
-callsFrom kinds streams requests at (suc n) =
-    callOf (getD kinds at 0) (getD streams at 0) (getD requests at (pos 0)) ∷ callsFrom kinds streams requests (at + 1) n
+-- call i of the slices
+abbrev pub callAt : List ℕ → List ℕ → List ℤ → ℕ → Call
+callAt kinds streams requests i = callOf (getD kinds i 0) (getD streams i 0) (getD requests i (pos 0))
 
 abbrev pub callsOf : List ℕ → List ℕ → List ℤ → List Call
-callsOf kinds streams requests = callsFrom kinds streams requests 0 (length kinds)
+callsOf kinds streams requests = callsFrom (callAt kinds streams requests) 0 (length kinds)
 
 -- a row's six numbers
 abbrev pub rowWords : Row → List ℕ
@@ -64,16 +60,9 @@ abbrev pub rowOf : Walker → CallAnswer → Row
 rowOf w (readAnswer a) = readRow w a
 rowOf w (seekAnswer a) = soughtRow a
 
--- a read's row in the code's terms, where a packet names its payload itself
-abbrev pub nextRow : NextPacket → Row
-nextRow (next.Packet p) = packetRow (p .stream) (p .start) (p .len) (p .stamp) (ticks (p .duration))
-nextRow next.End = refusalRow 0 0 0
-nextRow (next.Err e) = refusalRow 3 (refusalOf e .number) (refusalOf e .place)
-
--- the numbers of all rows, in the order of the calls
-unfoldable pub rowsOf : List ℕ → List ℕ → Walker → List Call → List ℕ
-rowsOf file table w [] = []
-rowsOf file table w (c ∷ cs) = rowWords (rowOf w (call file table w c .answer)) ++ rowsOf file table (call file table w c .walker) cs
+-- a call puts the row of its answer, and the next one gets the walker that it leaves
+abbrev pub step : List ℕ → List ℕ → Step Walker Call
+step file table = record { row = λ w c. rowWords (rowOf w (call file table w c .answer)); next = λ w c. call file table w c .walker }
 
 -- the other way round, the answer that a row says: a packet's payload is the part of the file that the row names
 abbrev pub packetAnswer : List ℕ → Row → PacketDuration → CallAnswer
@@ -88,36 +77,32 @@ rowAnswer file r =
     (cond (eqb (r .said) 3) (readAnswer (read-answer.refused (numbered (r .first) (r .second))))
     (cond (eqb (r .said) 4) (seekAnswer (accepted (r .first))) (seekAnswer (refused (numbered (r .first) (r .second))))))))
 
--- the row that stands at an offset
-abbrev pub rowAt : List ℕ → ℕ → Row
-rowAt rows at =
-    record {
-      said = getD rows at 0;
-      first = getD rows (at + 1) 0;
-      second = getD rows (at + 2) 0;
-      third = getD rows (at + 3) 0;
-      fourth = getD rows (at + 4) 0;
-      fifth = getD rows (at + 5) 0;
-    }
+-- a row by its six numbers
+abbrev pub rowBy : List ℕ → Row
+rowBy r =
+    record { said = getD r 0 0; first = getD r 1 0; second = getD r 2 0; third = getD r 3 0; fourth = getD r 4 0; fifth = getD r 5 0 }
+
+unfoldable pub answersBy : List ℕ → List (List ℕ) → List CallAnswer
+answersBy file [] = []
+answersBy file (r ∷ rs) = rowAnswer file (rowBy r) ∷ answersBy file rs
 
 -- the answers that the first n rows say
-unfoldable pub answersIn : List ℕ → List ℕ → ℕ → List CallAnswer
-answersIn file rows zero = []
-answersIn file rows (suc n) = answersIn file rows n ++ (rowAnswer file (rowAt rows (n * 6)) ∷ [])
+abbrev pub answersIn : List ℕ → List ℕ → ℕ → List CallAnswer
+answersIn file rows n = answersBy file (rowsIn 6 n rows)
 
 -- what a run of n calls leaves: the last call's walker, the calls' answers in order, and every number of the rows and after them
 pub record Run (file table : List ℕ) (calls : List Call) (n : ℕ) (rows : List ℕ) (w : Walker) (left : List ℕ) : Type 0 where
   pub room : n * 6 ≤ length rows
   pub walker-is : w ≡ after file table fresh calls
   pub said-are : answersIn file left n ≡ answers file table fresh calls
-  pub rows-are : left ≡ put rows 0 (rowsOf file table fresh calls)
+  pub rows-are : left ≡ put rows 0 (numbers (rowsOf (step file table) fresh calls))
 
 -- the three slices are of one length
 abbrev pub equal : List ℕ → List ℕ → List ℤ → Bool
-equal kinds streams requests = eqb (length streams) (length kinds) && eqb (length requests) (length kinds)
+equal kinds streams requests = oneLength (length kinds) (length streams ∷ length requests ∷ [])
 
 -- all calls are run, or none: slices of unequal length and rows without room leave every number as it was
-abbrev pub Replayed : List ℕ → List ℕ → List ℕ → List ℕ → List ℤ → List ℕ → Ran → List ℕ → Type 0
+abbrev pub Replayed : List ℕ → List ℕ → List ℕ → List ℕ → List ℤ → List ℕ → CallsResult → List ℕ → Type 0
 Replayed file table kinds streams requests rows (Done w) left =
     (equal kinds streams requests ≡ true) × Run file table (callsOf kinds streams requests) (length kinds) rows w left
 Replayed file table kinds streams requests rows Unequal left = (equal kinds streams requests ≡ false) × (left ≡ rows)
@@ -125,7 +110,7 @@ Replayed file table kinds streams requests rows NoRoom left =
     (equal kinds streams requests ≡ true) × ((length rows < length kinds * 6) × (left ≡ rows))
 
 -- demand 3 for reads and seeks, of what the function returns on a finished recording and its own index
-abbrev pub Compared : List ℕ → List ℕ → List ℕ → List ℕ → List ℤ → Ran → List ℕ → Type 0
+abbrev pub Compared : List ℕ → List ℕ → List ℕ → List ℕ → List ℤ → CallsResult → List ℕ → Type 0
 Compared file table kinds streams requests (Done w) left =
     (cs : List Chunk) → Finished file cs → OwnIndex file table
     → Agreed file cs (callsOf kinds streams requests) w (answersIn file left (length kinds))

@@ -11,11 +11,13 @@ ghost use lib.ListN.{length};
 ghost use Rattle.fields.specs.Le.{put};
 ghost use Rattle.demuxer.specs.Packet.{ticks};
 ghost use Rattle.seek.specs.Seek.{saidSeek};
-ghost use Rattle.recording.specs.Machine.{call};
-ghost use Rattle.replay.specs.Replay.{rowWords, rowAnswer, rowOf, refusalRow, packetRow, nextRow, soughtRow, callOf, Replayed, Compared};
+ghost use Rattle.replay.specs.Replay.{rowWords, refusalRow, packetRow, soughtRow, callOf, Replayed, Compared};
+ghost use Rattle.replay.specs.Steps.{nextRow, Answered};
 
-// An answer as six numbers: what it is, and its values.
+// An answer as six numbers. A packet's values: stream, start and length of its payload in the file, stamp, and duration or 0. A refusal's:
+// number and place. A seek's: the stamp. Every other value is 0.
 pub struct Row {
+    // What the answer is: one of the constants below.
     pub said: u64,
     pub first: u64,
     pub second: u64,
@@ -25,19 +27,25 @@ pub struct Row {
 }
 
 impl Row {
+    // The numbers of a row.
     pub const LEN: usize = 6;
 
-    // What a row says: a read's End, packet, packet without a duration or refusal; a seek's stamp or refusal.
+    // A read that gave End.
     pub const END: u64 = 0;
 
+    // A read that gave a packet with a duration.
     pub const PACKET: u64 = 1;
 
+    // A read that gave a packet without a duration.
     pub const PACKET_NO_DURATION: u64 = 2;
 
+    // A read that was refused.
     pub const READ_REFUSED: u64 = 3;
 
+    // A seek that gave a stamp.
     pub const STAMP: u64 = 4;
 
+    // A seek that was refused.
     pub const SEEK_REFUSED: u64 = 5;
 
     fn put(self, rows: &mut [u64], at: usize)
@@ -56,7 +64,9 @@ impl Row {
 // The kind of call that is a read; every other is a seek.
 pub const READ: u8 = 0;
 
-pub enum Ran {
+// What a list of calls gives: all of them are run, or none.
+pub enum CallsResult {
+    // All calls are run; the walker that the last one left.
     Done(Walker),
     // The calls' slices are not of one length.
     Unequal,
@@ -64,8 +74,8 @@ pub enum Ran {
     NoRoom,
 }
 
-// A call's answer, and the walker that the next call gets.
-struct Called {
+// A call's answer as a row, and the walker that the next call gets.
+struct CallResult {
     row: Row,
     walker: Walker,
 }
@@ -135,16 +145,14 @@ fn run_call(
     kind: u8,
     stream: u32,
     request: i64,
-) -> Called
-    ensures { λ r. ⌜ rowAnswer (now (file .entry)) (r .row) ≡ call (now (file .entry)) (now (table .entry)) walker (callOf kind stream request) .answer ⌝ }
-    ensures { λ r. ⌜ r .row ≡ rowOf walker (call (now (file .entry)) (now (table .entry)) walker (callOf kind stream request) .answer) ⌝ }
-    ensures { λ r. ⌜ r .walker ≡ call (now (file .entry)) (now (table .entry)) walker (callOf kind stream request) .walker ⌝ }
+) -> CallResult
+    ensures { λ r. ⌜ Answered (now (file .entry)) (now (table .entry)) walker (callOf kind stream request) r ⌝ }
 {
     if kind == READ {
         let read = walker.next_packet(file);
         let answer = read.answer;
         let next = read.walker;
-        return Called {
+        return CallResult {
             row: read_row(answer),
             walker: next,
         };
@@ -152,13 +160,13 @@ fn run_call(
     let sought = seek_to_via_index(walker, table, stream, request);
     let result = sought.result;
     let next = sought.walker;
-    Called {
+    CallResult {
         row: seek_row(result),
         walker: next,
     }
 }
 
-// Call i is kinds[i] with streams[i] and requests[i]; its answer is row i.
+// Runs calls from a fresh walker over a file and its index: call i is kinds[i] with streams[i] and requests[i], its answer is row i.
 pub fn run_calls(
     file: &[u8],
     table: &[u8],
@@ -166,19 +174,21 @@ pub fn run_calls(
     streams: &[u32],
     requests: &[i64],
     rows: &mut [u64],
-) -> Ran
-    ensures { λ r. ⌜ Replayed (now (file .entry)) (now (table .entry)) (now (kinds .entry)) (now (streams .entry)) (now (requests .entry)) (now (rows .entry)) r (now (rows .exit)) ⌝ }
-    ensures { λ r. ⌜ Compared (now (file .entry)) (now (table .entry)) (now (kinds .entry)) (now (streams .entry)) (now (requests .entry)) r (now (rows .exit)) ⌝ }
+) -> CallsResult
+    ensures { λ r. ⌜ Replayed (now (file .entry)) (now (table .entry)) (now (kinds .entry)) (now (streams .entry)) (now (requests .entry))
+        (now (rows .entry)) r (now (rows .exit)) ⌝ }
+    ensures { λ r. ⌜ Compared (now (file .entry)) (now (table .entry)) (now (kinds .entry)) (now (streams .entry)) (now (requests .entry))
+        r (now (rows .exit)) ⌝ }
 {
     let count = kinds.len();
     if streams.len() != count {
-        return Ran::Unequal;
+        return CallsResult::Unequal;
     }
     if requests.len() != count {
-        return Ran::Unequal;
+        return CallsResult::Unequal;
     }
     if rows.len() / Row::LEN < count {
-        return Ran::NoRoom;
+        return CallsResult::NoRoom;
     }
     let mut walker = Walker::new();
     let mut i: usize = 0;
@@ -192,5 +202,5 @@ pub fn run_calls(
         i += 1;
         at += Row::LEN;
     }
-    Ran::Done(walker)
+    CallsResult::Done(walker)
 }

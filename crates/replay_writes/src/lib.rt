@@ -7,24 +7,26 @@ use muxer::Settings;
 use muxer::Writer;
 use muxer::Wrote;
 ghost use mathlib.Core.Path.{_≡_};
-ghost use mathlib.Core.List.{[], _∷_};
 ghost use Prim.Native.Nat.{_+_, _≤_};
 ghost use lib.ListN.{length};
 ghost use Rattle.error.specs.Refusal.{said};
 ghost use Rattle.fields.specs.Le.{put};
 ghost use Rattle.muxer.specs.Writer.{Meets};
 ghost use Rattle.recording.specs.Written.{writeStep};
-ghost use Rattle.replay_writes.specs.Replay.{Lists, payloadIn, callOf, verdict, Replayed, Kept};
+ghost use Rattle.replay_writes.specs.Replay.{lists, payloadIn, callOf, verdict, Replayed, Kept};
 
-// The kinds of calls; every other is a trailer.
+// The kind of call that writes a header. Every kind but these two writes a trailer.
 pub const HEADER: u8 = 0;
 
+// The kind of call that writes a packet.
 pub const PACKET: u8 = 1;
 
-// A verdict is two numbers: the refusal's number, 0 where the call was accepted, and its place.
+// The numbers of a verdict: the refusal's number, 0 where the call was accepted, and its place.
 pub const VERDICT_LEN: usize = 2;
 
-pub enum RanWrites {
+// What a list of writing calls gives: all of them are run, or none.
+pub enum WritesResult {
+    // All calls are run; the writer that the last one left.
     Done(Writer),
     // The calls' slices are not of one length.
     Unequal,
@@ -55,7 +57,8 @@ fn run_write(
     start: u64,
     len: u64,
 ) -> Wrote
-    ensures { λ r. ⌜ Meets (writeStep writer (now (buf .entry)) (callOf kind stream (payloadIn (now (payloads .entry)) start len))) r (now (buf .exit)) ⌝ }
+    ensures { λ r. ⌜ Meets (writeStep writer (now (buf .entry)) (callOf kind stream (payloadIn (now (payloads .entry)) start len)))
+        r (now (buf .exit)) ⌝ }
 {
     if kind == HEADER {
         return writer.write_header(buf);
@@ -74,7 +77,8 @@ fn put_verdict(verdicts: &mut [u64], at: usize, result: AmvResult)
     verdicts[at + 1] = result.place();
 }
 
-// Call i is kinds[i], for a packet with streams[i] and the payload of length lens[i] at starts[i] of the payloads.
+// Runs calls from a fresh writer of these settings: call i is kinds[i], for a packet with streams[i] and the payload of length lens[i] at
+// starts[i] of the payloads; its answer is verdict i.
 pub fn run_writes(
     settings: Settings,
     buf: &mut [u8],
@@ -84,22 +88,24 @@ pub fn run_writes(
     lens: &[u64],
     payloads: &[u8],
     verdicts: &mut [u64],
-) -> RanWrites
-    ensures { λ r. ⌜ Replayed (record { kinds = now (kinds .entry); streams = now (streams .entry); starts = now (starts .entry); lens = now (lens .entry); payloads = now (payloads .entry) }) settings (now (buf .entry)) (now (verdicts .entry)) r (now (buf .exit)) (now (verdicts .exit)) ⌝ }
-    ensures { λ r. ⌜ Kept (record { kinds = now (kinds .entry); streams = now (streams .entry); starts = now (starts .entry); lens = now (lens .entry); payloads = now (payloads .entry) }) settings r (now (buf .exit)) (now (verdicts .exit)) ⌝ }
+) -> WritesResult
+    ensures { λ r. ⌜ Replayed (lists (now (kinds .entry)) (now (streams .entry)) (now (starts .entry)) (now (lens .entry)) (now (payloads .entry)))
+        settings (now (buf .entry)) (now (verdicts .entry)) r (now (buf .exit)) (now (verdicts .exit)) ⌝ }
+    ensures { λ r. ⌜ Kept (lists (now (kinds .entry)) (now (streams .entry)) (now (starts .entry)) (now (lens .entry)) (now (payloads .entry)))
+        settings r (now (buf .exit)) (now (verdicts .exit)) ⌝ }
 {
     let count = kinds.len();
     if streams.len() != count {
-        return RanWrites::Unequal;
+        return WritesResult::Unequal;
     }
     if starts.len() != count {
-        return RanWrites::Unequal;
+        return WritesResult::Unequal;
     }
     if lens.len() != count {
-        return RanWrites::Unequal;
+        return WritesResult::Unequal;
     }
     if verdicts.len() / VERDICT_LEN < count {
-        return RanWrites::NoRoom;
+        return WritesResult::NoRoom;
     }
     let mut writer = Writer::new(settings);
     let mut i: usize = 0;
@@ -121,5 +127,5 @@ pub fn run_writes(
         i += 1;
         at += VERDICT_LEN;
     }
-    RanWrites::Done(writer)
+    WritesResult::Done(writer)
 }

@@ -1,11 +1,11 @@
+-- `replay::packet_row` meets its contract. Each arm's row is the packet's with the duration that the arm has found.
+-- Assumes nothing.
 use mathlib.Core.Path.{sym, ap}
 use Rattle.demuxer.specs.Packet.{ticks}
 use Rattle.replay.specs.Replay.{packetRow}
 use borrow.Author.Needs.{needs}
 use Rattle.replay.proofs.packet_row.Statement.{statement}
 use Rattle.replay.proofs.packet_row.Tie as tie
-use Rattle.replay.proofs.packet_row.Reads as reads
-use Rattle.replay.proofs.packet_row.Lts as lts
 
 cast-t5 : tie.Need-cast-t5
 cast-t5 c = search needs

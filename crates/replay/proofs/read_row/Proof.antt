@@ -1,14 +1,11 @@
+-- `replay::read_row` meets its contract. Each arm makes the row of its answer; a refusal's number and place are the error's, by their contracts.
+-- Assumes nothing.
 use mathlib.Core.Path.{sym, ap, _∙_}
-use Rattle.replay.specs.Replay.{nextRow, refusalRow}
+use Rattle.replay.specs.Replay.{refusalRow}
+use Rattle.replay.specs.Steps.{nextRow}
 use borrow.Author.Needs.{needs}
 use Rattle.replay.proofs.read_row.Statement.{statement}
 use Rattle.replay.proofs.read_row.Tie as tie
-use Rattle.replay.proofs.read_row.Reads as reads
-use Rattle.replay.proofs.read_row.Lts as lts
-use Rattle.error.proofs.AmvError.number.Reads as number-reads
-use Rattle.error.proofs.AmvError.place.Reads as place-reads
-use Rattle.replay.proofs.packet_row.Reads as packet-row-reads
-use Rattle.replay.proofs.refusal_row.Reads as refusal-row-reads
 
 enum-known-answer : tie.Need-enum-known-answer
 enum-known-answer c = search needs
@@ -42,7 +39,9 @@ returns-2 c = c .refusal-row .ensures ∙ sym (ap nextRow (c .before .enum-told 
 
 returns-3 : tie.Need-returns-3
 returns-3 c =
-    c .refusal-row2 .ensures ∙ (λ i. refusalRow 3 (c .before .before .number .ensures i) (c .before .place .ensures i)) ∙ sym (ap nextRow (c .before .before .before .before .answer2 .given .1))
+    c .refusal-row2 .ensures
+    ∙ (λ i. refusalRow 3 (c .before .before .number .ensures i) (c .before .place .ensures i))
+    ∙ sym (ap nextRow (c .before .before .before .before .answer2 .given .1))
 
 pub read-row-spec : {M : Type 1} → statement M
 read-row-spec =

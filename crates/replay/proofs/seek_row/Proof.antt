@@ -1,14 +1,11 @@
+-- `replay::seek_row` meets its contract. Each arm makes the row of its result; a refusal's number and place are the error's, by their contracts.
+-- Assumes nothing.
 use Rattle.seek.specs.Seek.{saidSeek}
 use mathlib.Core.Path.{sym, ap, _∙_}
 use Rattle.replay.specs.Replay.{soughtRow, refusalRow}
 use borrow.Author.Needs.{needs}
 use Rattle.replay.proofs.seek_row.Statement.{statement}
 use Rattle.replay.proofs.seek_row.Tie as tie
-use Rattle.replay.proofs.seek_row.Reads as reads
-use Rattle.replay.proofs.seek_row.Lts as lts
-use Rattle.error.proofs.AmvError.number.Reads as number-reads
-use Rattle.error.proofs.AmvError.place.Reads as place-reads
-use Rattle.replay.proofs.refusal_row.Reads as refusal-row-reads
 
 enum-known-result : tie.Need-enum-known-result
 enum-known-result c = search needs
@@ -30,7 +27,9 @@ returns c = sym (ap (λ r. soughtRow (saidSeek r)) (c .before .result .given .1)
 
 returns-2 : tie.Need-returns-2
 returns-2 c =
-    c .refusal-row .ensures ∙ (λ i. refusalRow 5 (c .before .before .number .ensures i) (c .before .place .ensures i)) ∙ sym (ap (λ r. soughtRow (saidSeek r)) (c .before .before .before .before .result2 .given .1))
+    c .refusal-row .ensures
+    ∙ (λ i. refusalRow 5 (c .before .before .number .ensures i) (c .before .place .ensures i))
+    ∙ sym (ap (λ r. soughtRow (saidSeek r)) (c .before .before .before .before .result2 .given .1))
 
 pub seek-row-spec : {M : Type 1} → statement M
 seek-row-spec =

@@ -1,3 +1,5 @@
+-- `replay_writes::put_verdict` meets its contract. Two stores side by side are one write of the answer's number and place, by their contracts.
+-- Assumes nothing.
 use mathlib.Core.Path.{_∙_}
 use mathlib.Core.List.{[], _∷_}
 use Prim.Native.Nat.{_+_}
@@ -9,10 +11,6 @@ use Rattle.fields.proofs.Laws.{sets, stores-put}
 use borrow.Author.Needs.{needs}
 use Rattle.replay_writes.proofs.put_verdict.Statement.{statement}
 use Rattle.replay_writes.proofs.put_verdict.Tie as tie
-use Rattle.replay_writes.proofs.put_verdict.Reads as reads
-use Rattle.replay_writes.proofs.put_verdict.Lts as lts
-use Rattle.error.proofs.AmvResult.number.Reads as number-reads
-use Rattle.error.proofs.AmvResult.place.Reads as place-reads
 
 number-requires : tie.Need-number-requires
 number-requires c κs = search needs

@@ -1,13 +1,9 @@
+-- `replay_writes::run_write` meets its contract. Each arm's kind makes the call that the arm runs, and its contract is the step's.
+-- Assumes nothing.
 use Rattle.replay_writes.proofs.Going.{header-step, packet-step, trailer-step}
 use borrow.Author.Needs.{needs}
 use Rattle.replay_writes.proofs.run_write.Statement.{statement}
 use Rattle.replay_writes.proofs.run_write.Tie as tie
-use Rattle.replay_writes.proofs.run_write.Reads as reads
-use Rattle.replay_writes.proofs.run_write.Lts as lts
-use Rattle.muxer.proofs.Writer.write_header.Reads as write-header-reads
-use Rattle.muxer.proofs.Writer.write_packet.Reads as write-packet-reads
-use Rattle.muxer.proofs.Writer.write_trailer.Reads as write-trailer-reads
-use Rattle.replay_writes.proofs.payload_in.Reads as payload-in-reads
 
 write-header-requires : tie.Need-write-header-requires
 write-header-requires c κs = search needs

@@ -1,11 +1,11 @@
+-- `replay::Row::put` meets its contract. Six stores side by side are one write of the row's numbers, and each keeps the length.
+-- Assumes nothing.
 use native.Mathlib.Omega.{arith}
 use lib.ListN.{length-set}
 use Rattle.replay.proofs.Laws.{row-put}
 use borrow.Author.Needs.{needs}
 use Rattle.replay.proofs.Row.put.Statement.{statement}
 use Rattle.replay.proofs.Row.put.Tie as tie
-use Rattle.replay.proofs.Row.put.Reads as reads
-use Rattle.replay.proofs.Row.put.Lts as lts
 
 mul-rows : tie.Need-mul-rows
 mul-rows c = search needs

@@ -1,0 +1,1 @@
+// Definitions and laws of calls that are answered by rows of numbers; it has no function.
