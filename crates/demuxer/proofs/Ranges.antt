@@ -5,6 +5,7 @@ use Prim.Native.Nat.{ℕ}
 use native.Mathlib.Omega.{arith}
 use borrow.Author.Tests.{le-leb, leb-true}
 use lib.Dec.{leb}
+use Rattle.fields.proofs.Impossible.{impossible}
 use Rattle.demuxer.specs.Position.{countLimit, inRange, InRange}
 use Rattle.demuxer.specs.declared.position.Position.{Position}
 
@@ -32,7 +33,7 @@ module _ (p : Position) where
             samples-in = leb-true (p .samples .0) countLimit h;
             blocks-in = leb-true (p .blocks .0) countLimit k;
           }
-      go true true true false f g h k t = let z : _≡_ {A = ℕ} 0 1 = cc in absurd (omega arith)
-      go true true false d f g h k t = let z : _≡_ {A = ℕ} 0 1 = cc in absurd (omega arith)
-      go true false c d f g h k t = let z : _≡_ {A = ℕ} 0 1 = cc in absurd (omega arith)
-      go false b c d f g h k t = let z : _≡_ {A = ℕ} 0 1 = cc in absurd (omega arith)
+      go true true true false f g h k t = impossible cc
+      go true true false d f g h k t = impossible cc
+      go true false c d f g h k t = impossible cc
+      go false b c d f g h k t = impossible cc

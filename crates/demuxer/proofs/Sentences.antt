@@ -19,6 +19,7 @@ use Rattle.error.specs.declared.Refusal.{Refusal}
 use Rattle.fields.specs.File.{fileLimit}
 use Rattle.fields.specs.Le.{le, leBytes}
 use Rattle.fields.proofs.Laws.{le-append-right, le-leBytes}
+use Rattle.fields.proofs.Impossible.{impossible}
 use Rattle.demuxer.specs.Head.{trailerTag, trailerSize, isTrailer, kindHead, headAt, countOf}
 use Rattle.demuxer.specs.Read.{Reading, ReadAnswer, packet, End, payloadAt, readFrame, readSound, readHead, readChunk, readOf}
 use Rattle.demuxer.specs.Read as read
@@ -134,8 +135,8 @@ counted state rest n e h =
 -- ---- of every read
 
 refused-read : (x : ReadAnswer) {r : Refusal} → asAnswer x ≡ refused r → x ≡ read.refused r
-refused-read (packet p) e = let z : _≡_ {A = ℕ} 0 1 = cc in absurd (omega arith)
-refused-read End e = let z : _≡_ {A = ℕ} 0 1 = cc in absurd (omega arith)
+refused-read (packet p) e = impossible cc
+refused-read End e = impossible cc
 refused-read (read.refused q) e = cc
 
 only-short : (file : List ℕ) (w : Walker) → w .cut ≡ false → readOf file w .walker .cut ≡ true
@@ -146,7 +147,7 @@ only-short file w c =
     clear clear clear (λ h e. h) clear clear clear clear
 
 no-packet : {A : Type 0} {p : _} → packet p ≡ End → A
-no-packet e = let z : _≡_ {A = ℕ} 0 1 = cc in absurd (omega arith)
+no-packet e = impossible cc
 
 end-stays : (file : List ℕ) (w : Walker) → readOf file w .answer ≡ End → readOf file w .walker .position ≡ w .position
 end-stays file w =

@@ -13,7 +13,7 @@ use Rattle.error.specs.Refusal.{refusalOf, said}
 use Rattle.error.specs.declared.AmvError.{AmvError}
 use Rattle.error.specs.declared.AmvResult.{AmvResult}
 use Rattle.error.specs.declared.AmvResult.the-variants.{Ok, Err}
-use Rattle.error.proofs.Answers.{then-ok, then-err, ask-passed}
+use Rattle.error.proofs.Answers.{then-ok, then-err, ask-passed, both}
 use Rattle.fields.specs.Le.{leBytes, put}
 use Rattle.fields.proofs.Laws.{put-put, length-leBytes}
 use Rattle.muxer.specs.Writer.{outcome, Meets, acceptedWith, refusedWith, fits, hasPrelude, packetBytes, askOpen, packetQuestions, trailerQuestions, headerQuestions}
@@ -32,10 +32,6 @@ fits-no end room h = go (leb end room) (leb end 4294967295) refl refl
     go true true p q = let x = leb-true end room p in let y = leb-true end 4294967295 q in absurd (omega arith)
     go true false p q = refl
     go false b p q = refl
-
-both : (a b : Bool) → a && b ≡ true → (a ≡ true) × (b ≡ true)
-both true b h = (refl, h)
-both false b h = let z : _≡_ {A = ℕ} 0 1 = cc in absurd (omega arith)
 
 pub fits-ends : (end room : ℕ) → fits end room ≡ true → (end ≤ room) × (end ≤ 4294967295)
 fits-ends end room h =

@@ -12,6 +12,7 @@ use Rattle.error.specs.Answer.{Answer, accepted, refused}
 use Rattle.error.specs.declared.Refusal.{Refusal}
 use Rattle.fields.specs.Le.{leBytes, put}
 use Rattle.fields.proofs.Laws.{length-put, take-put, take-put-inside, length-leBytes}
+use Rattle.fields.proofs.Impossible.{impossible}
 use Rattle.prelude.specs.Built.{preludeBytes}
 use Rattle.prelude.proofs.BuiltLaws.{length-prelude}
 use Rattle.muxer.specs.Writer.{outcome, packetBytes, patchRunLength, headerQuestions, packetQuestions, trailerQuestions, afterHeader, afterPacket, afterTrailer, headerCall, packetCall, trailerCall}
@@ -33,14 +34,14 @@ preludeFor s = preludeBytes (s .width) (s .height) (s .fps) 0 (s .rate) (s .chan
 pub outcome-refused : (q : Answer Unit) (w : Writer) (buf : List ℕ) (next : Writer) (after : List ℕ) {r : Refusal}
     → outcome q w buf next after .answer ≡ refused r
     → (outcome q w buf next after .writer ≡ w) × (outcome q w buf next after .buffer ≡ buf)
-outcome-refused (accepted u) w buf next after e = let z : _≡_ {A = ℕ} 0 1 = cc in absurd (omega arith)
+outcome-refused (accepted u) w buf next after e = impossible cc
 outcome-refused (refused r) w buf next after e = (refl, refl)
 
 pub outcome-accepted : (q : Answer Unit) (w : Writer) (buf : List ℕ) (next : Writer) (after : List ℕ)
     → outcome q w buf next after .answer ≡ accepted tt
     → (q ≡ accepted tt) × (outcome q w buf next after .writer ≡ next) × (outcome q w buf next after .buffer ≡ after)
 outcome-accepted (accepted u) w buf next after e = (refl, refl, refl)
-outcome-accepted (refused r) w buf next after e = let z : _≡_ {A = ℕ} 0 1 = cc in absurd (omega arith)
+outcome-accepted (refused r) w buf next after e = impossible cc
 
 outcome-length : (q : Answer Unit) (w : Writer) (buf : List ℕ) (next : Writer) (after : List ℕ)
     → (q ≡ accepted tt → length after ≡ length buf) → length (outcome q w buf next after .buffer) ≡ length buf
