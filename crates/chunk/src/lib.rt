@@ -10,6 +10,9 @@ pub const VIDEO_CHUNK_TAG: u32 = 0x63643030; // 00dc
 
 pub const AUDIO_CHUNK_TAG: u32 = 0x62773130; // 01wb
 
+// The longest payload: a length is a u32.
+pub const PAYLOAD_LIMIT: usize = fields::U32_MAX as usize;
+
 pub enum ChunkKind {
     Video,
     Audio,

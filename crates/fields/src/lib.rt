@@ -5,8 +5,14 @@ pub mod file;
 ghost use mathlib.Core.Path.{_≡_};
 ghost use Prim.Native.Nat.{_+_, _*_, _<_, _≤_, min};
 ghost use lib.ListN.{length};
-ghost use Rattle.fields.specs.Capped.{quotient};
+ghost use Rattle.fields.specs.Capped.{quotient, u32Max};
 ghost use Rattle.fields.specs.Le.{le, put, putLe, Widened};
+
+// The largest u32.
+pub const U32_MAX: u32 = 4294967295;
+
+// What the upper half of a u64 counts in: 2 to the 32.
+const UPPER_HALF: u64 = 4294967296;
 
 // What copy_in moves at a time.
 const BLOCK: usize = 4096;
@@ -39,7 +45,7 @@ pub fn read_u64_le(buf: &[u8], off: usize) -> u64
 {
     let low = read_u32_le(buf, off) as u64;
     let high = read_u32_le(buf, off + 4) as u64;
-    low + 4294967296 * high
+    low + UPPER_HALF * high
 }
 
 pub fn write_u16_le(buf: &mut [u8], off: usize, v: u16)
@@ -62,19 +68,19 @@ pub fn write_u64_le(buf: &mut [u8], off: usize, v: u64)
     requires { ⌜ off + 8 ≤ length (now buf) ⌝ }
     ensures { λ _. ⌜ now (buf .exit) ≡ putLe 8 (now (buf .entry)) off v ⌝ }
 {
-    write_u32_le(buf, off, (v % 4294967296) as u32);
-    write_u32_le(buf, off + 4, (v / 4294967296) as u32);
+    write_u32_le(buf, off, (v % UPPER_HALF) as u32);
+    write_u32_le(buf, off + 4, (v / UPPER_HALF) as u32);
 }
 
 // The product, capped at the largest u32.
 pub fn saturating_mul(a: u32, b: u32) -> u32
-    ensures { λ r. ⌜ r ≡ min (a * b) 4294967295 ⌝ }
+    ensures { λ r. ⌜ r ≡ min (a * b) u32Max ⌝ }
 {
     let product = (a as u64) * (b as u64);
-    if product < 4294967295 {
+    if product < U32_MAX as u64 {
         product as u32
     } else {
-        4294967295
+        U32_MAX
     }
 }
 

@@ -14,6 +14,7 @@ use Rattle.fields.specs.Le.{leBytes, put}
 use Rattle.fields.proofs.Laws.{length-put, take-put, take-put-inside, length-leBytes}
 use Rattle.fields.proofs.Impossible.{impossible}
 use Rattle.prelude.specs.Built.{preludeBytes}
+use Rattle.prelude.specs.Layout.{preludeLen}
 use Rattle.prelude.proofs.BuiltLaws.{length-prelude}
 use Rattle.muxer.specs.Writer.{outcome, packetBytes, patchRunLength, headerQuestions, packetQuestions, trailerQuestions, afterHeader, afterPacket, afterTrailer, headerCall, packetCall, trailerCall}
 use Rattle.muxer.specs.declared.Settings.{Settings}
@@ -97,20 +98,20 @@ module _ (w : Writer) (buf : List ℕ) where
   header-accepted e =
       let s = w .settings in
       let o = outcome-accepted (headerQuestions w (length buf)) w buf _ _ e in
-      let l : length (preludeFor s) ≡ 316 = length-prelude (s .width) (s .height) (s .fps) 0 (s .rate) (s .channels) in
+      let l : length (preludeFor s) ≡ preludeLen = length-prelude (s .width) (s .height) (s .fps) 0 (s .rate) (s .channels) in
       let p = header-passed w (length buf) (o .0) in
       let h = p .inside in
       record {
         writer = o .1;
         ready = record { begun = refl; going = p .going; prelude = omega arith };
-        file = rw (o .1, o .2) (take-put buf 0 (preludeFor s) 316 (omega arith) (omega arith));
+        file = rw (o .1, o .2) (take-put buf 0 (preludeFor s) preludeLen (omega arith) (omega arith));
       }
 
   pub header-length : length (headerCall w buf .buffer) ≡ length buf
   unfolding headerCall
   header-length =
       let s = w .settings in
-      let l : length (preludeFor s) ≡ 316 = length-prelude (s .width) (s .height) (s .fps) 0 (s .rate) (s .channels) in
+      let l : length (preludeFor s) ≡ preludeLen = length-prelude (s .width) (s .height) (s .fps) 0 (s .rate) (s .channels) in
       outcome-length (headerQuestions w (length buf)) w buf _ _
       (λ e. let h = header-passed w (length buf) e .inside in length-put buf 0 (preludeFor s) (omega arith))
 

@@ -1,5 +1,6 @@
 // The writer: a state by value over one lent buffer, and the three calls that write a file.
 use chunk::AUDIO_CHUNK_TAG;
+use chunk::PAYLOAD_LIMIT;
 use chunk::VIDEO_CHUNK_TAG;
 use duration::AmvDuration;
 use error::AmvError;
@@ -10,7 +11,7 @@ use prelude::prelude::AmvPrelude;
 ghost use mathlib.Core.Path.{_≡_};
 ghost use Prim.Native.Nat.{_+_, _≤_};
 ghost use lib.ListN.{length};
-ghost use Rattle.chunk.specs.Chunk.{streamTag, advanceTotal, trailerBytes};
+ghost use Rattle.chunk.specs.Chunk.{streamTag, advanceTotal, payloadLimit, trailerBytes};
 ghost use Rattle.error.specs.Answer.{accepted};
 ghost use Rattle.error.specs.Refusal.{said};
 ghost use Rattle.fields.specs.File.{fileLimit};
@@ -18,6 +19,9 @@ ghost use Rattle.fields.specs.Le.{put};
 ghost use Rattle.prelude.specs.Built.{preludeBytes};
 ghost use Rattle.prelude.specs.Layout.{preludeLen};
 ghost use Rattle.muxer.specs.Writer.{fresh, fits, framesAfter, packetBytes, patchRunLength, askOpen, headerQuestions, packetQuestions, trailerQuestions, afterHeader, afterPacket, afterTrailer, headerCall, packetCall, trailerCall, Meets, acceptedWith, refusedWith};
+
+// The most frames that a writer counts: the largest u64.
+const FRAME_LIMIT: u64 = 18446744073709551615;
 
 pub struct Settings {
     pub width: u32,
@@ -57,14 +61,14 @@ fn has_room(room: usize, off: u64, len: u64) -> bool
 
 // A packet's length in the file: a chunk's, from its payload's.
 fn packet_len(size: usize) -> u64
-    requires { ⌜ size ≤ 4294967295 ⌝ }
+    requires { ⌜ size ≤ payloadLimit ⌝ }
     ensures { λ r. ⌜ r ≡ advanceTotal size ⌝ }
 {
     chunk::advance_total(size as u32)
 }
 
 fn payload_size(payload: &[u8]) -> u32
-    requires { ⌜ length (now payload) ≤ 4294967295 ⌝ }
+    requires { ⌜ length (now payload) ≤ payloadLimit ⌝ }
     ensures { λ r. ⌜ r ≡ length (now (payload .entry)) ⌝ }
 {
     payload.len() as u32
@@ -75,7 +79,7 @@ fn frames_after(stream: u32, frames: u64) -> u64
     ensures { λ r. ⌜ r ≡ framesAfter stream frames ⌝ }
 {
     if stream == 0 {
-        fields::min(frames, 18446744073709551614) + 1
+        fields::min(frames, FRAME_LIMIT - 1) + 1
     } else {
         frames
     }
@@ -83,7 +87,7 @@ fn frames_after(stream: u32, frames: u64) -> u64
 
 fn put_packet(buf: &mut [u8], off: usize, payload: &[u8], stream: u32)
     requires { ⌜ off + advanceTotal (length (now payload)) ≤ length (now buf) ⌝ }
-    requires { ⌜ length (now payload) ≤ 4294967295 ⌝ }
+    requires { ⌜ length (now payload) ≤ payloadLimit ⌝ }
     ensures { λ _. ⌜ now (buf .exit) ≡ put (now (buf .entry)) off (packetBytes stream (now (payload .entry))) ⌝ }
 {
     fields::write_u32_le(buf, off, chunk::stream_tag(stream));
@@ -187,7 +191,7 @@ impl Writer {
         if let AmvResult::Err(e) = self.ask_open() {
             return AmvResult::Err(e);
         }
-        if size > 4294967295 {
+        if size > PAYLOAD_LIMIT {
             return AmvResult::Err(AmvError::PayloadTooLong(self.written));
         }
         if stream > 1 {
@@ -228,6 +232,7 @@ impl Writer {
 
     fn after_packet(self, size: usize, stream: u32) -> Writer
         requires { ⌜ self .written + advanceTotal size ≤ fileLimit ⌝ }
+        requires { ⌜ size ≤ payloadLimit ⌝ }
         ensures { λ r. ⌜ r ≡ afterPacket self size stream ⌝ }
     {
         let settings = self.settings;

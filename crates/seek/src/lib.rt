@@ -8,11 +8,12 @@ use error::AmvError;
 use error::AmvResult;
 ghost use mathlib.Core.Path.{_≡_};
 ghost use mathlib.Core.Bool.{cond};
-ghost use Prim.Native.Nat.{_+_, _<_};
+ghost use Prim.Native.Nat.{_+_, _≤_};
 ghost use lib.Dec.{eqb};
 ghost use lib.IntN.{pos};
 ghost use Rattle.chunk.specs.Chunk.{streamTag};
 ghost use Rattle.error.specs.Refusal.{said};
+ghost use Rattle.fields.specs.Capped.{u32Max};
 ghost use Rattle.chunk_index.specs.Entry.{Small, entriesOf};
 ghost use Rattle.seek.specs.Seek.{goodEntry, goodEntries, seekQuestions, stampOf, least, reaches, find, foundOf, beyond, pastLast, movedTo, landed, saidSought, seekOf};
 
@@ -134,7 +135,7 @@ fn find_entry(records: &[u8], stream: u32, request: u64) -> Found
 
 // One more where a record's tag is the one that is counted.
 fn counted(count: u64, tag: u32, wanted: u32) -> u64
-    requires { ⌜ count < 4294967296 ⌝ }
+    requires { ⌜ count ≤ u32Max ⌝ }
     ensures { λ r. ⌜ r ≡ cond (eqb tag wanted) (count + 1) count ⌝ }
 {
     if tag == wanted {

@@ -4,7 +4,7 @@ use native.Mathlib.Omega.{arith}
 use borrow.Author.Needs.{needs}
 use lib.IntN.{pos}
 use lib.ListN.{length}
-use Rattle.chunk_index.specs.Entry.{entriesFrom, entriesOf}
+use Rattle.chunk_index.specs.Entry.{entryLen, entriesFrom, entriesOf}
 use Rattle.seek.specs.Seek.{find}
 use Rattle.seek.proofs.Records.{entries-off, find-on, find-here}
 use Rattle.seek.proofs.find_entry.Statement.{statement}
@@ -15,7 +15,7 @@ use Rattle.chunk_index.proofs.entry.ChunkIndexEntry.read.Reads as read-reads
 use Rattle.seek.proofs.reaches_entry.Reads as reaches-entry-reads
 
 abbrev Inv-loop : tie.InvT-loop
-Inv-loop records stream request at₀ left₀ at left = (at + left ≡ length records) × (find stream (pos request) (entriesFrom (left / 24) records at) ≡ find stream (pos request) (entriesOf records))
+Inv-loop records stream request at₀ left₀ at left = (at + left ≡ length records) × (find stream (pos request) (entriesFrom (left / entryLen) records at) ≡ find stream (pos request) (entriesOf records))
 
 abbrev μ-loop : tie.MeasureT-loop
 μ-loop records stream request at₀ left₀ at left = left

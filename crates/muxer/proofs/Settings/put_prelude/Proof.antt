@@ -1,4 +1,5 @@
 use Rattle.prelude.specs.Built.{builtOf}
+use Rattle.prelude.specs.Layout.{preludeLen}
 use mathlib.Core.Path.{_≡_, ap, _∙_}
 use native.Mathlib.Omega.{arith}
 use lib.ListN.{length}
@@ -21,7 +22,7 @@ slice-aggregate-copy-in c = search needs
 
 copy-in-requires : tie.Need-copy-in-requires
 copy-in-requires c κs = let s = c .before .before .before .before .before .args .self in
-    let e : length (c .before .before .before .build-prelude-bytes .result .bytes) ≡ 316 =
+    let e : length (c .before .before .before .build-prelude-bytes .result .bytes) ≡ preludeLen =
     ap (λ (b : BuiltPrelude). length (b .bytes)) {y = builtOf (s .width) (s .height) (s .fps) 0 (s .rate) (s .channels)} (c .before .before .before .build-prelude-bytes .ensures)
     ∙ length-prelude (s .width) (s .height) (s .fps) 0 (s .rate) (s .channels) in
     omega arith

@@ -33,7 +33,8 @@ put-packet-requires c κs = let a = c .before .before .before .before .before .b
 after-packet-requires : tie.Need-after-packet-requires
 after-packet-requires c κs = let a = c .before .before .before .before .before .before .before .before .before .args in
     let told = c .before .before .before .before in
-    steps.packet-passed (a .self) _ (a .stream) _ (steps.told-ok (told .before .before .ask-packet .ensures) (told .enum-told .given .1)) .limit
+    let p = steps.packet-passed (a .self) _ (a .stream) _ (steps.told-ok (told .before .before .ask-packet .ensures) (told .enum-told .given .1)) in
+    (p .limit, p .short)
 
 accepted-requires : tie.Need-accepted-requires
 accepted-requires c κs = search needs

@@ -3,7 +3,7 @@ use Prim.Native.Nat.{ℕ}
 use mathlib.Core.List.{List}
 use lib.ListN.{replicate}
 use Rattle.fields.specs.Le.{leBytes, put}
-use Rattle.prelude.specs.Layout.{layout}
+use Rattle.prelude.specs.Layout.{preludeLen, layout}
 use Rattle.prelude.specs.Built.{preludeBytes}
 use Rattle.prelude.specs.Stores.{writeItems, headerStores, waveFormatStores}
 use borrow.Author.Needs.{needs}
@@ -17,7 +17,7 @@ use Rattle.prelude.proofs.build.write_wave_format.Reads as write-wave-f
 
 -- the stores give the fields in their order, which antt computes
 whole : (width height fps duration rate channels : ℕ)
-    → waveFormatStores (headerStores (writeItems (replicate 316 0) layout) width height fps duration) rate channels
+    → waveFormatStores (headerStores (writeItems (replicate preludeLen 0) layout) width height fps duration) rate channels
     ≡ preludeBytes width height fps duration rate channels
 unfolding leBytes put layout preludeBytes writeItems headerStores waveFormatStores
 whole width height fps duration rate channels = refl
