@@ -1,3 +1,6 @@
+-- `fields::saturating_mul` meets its contract. The product of two numbers of 32 bits has at most 64 (`product-lt`), so it does not wrap, and the test
+-- picks the smaller as `min` does.
+-- Assumes nothing.
 use Rattle.fields.proofs.Products.{product-lt}
 use borrow.Author.Needs.{needs}
 use Rattle.fields.proofs.saturating_mul.Statement.{statement}
