@@ -29,7 +29,13 @@ pub same-equal : (a b : AmvDuration) → sameDuration a b ≡ true → a ≡ b
 same-equal a b e = go _ _ _ refl refl refl e
   where
     go : (s m h : Bool) → eqb (a .seconds) (b .seconds) ≡ s → eqb (a .minutes) (b .minutes) ≡ m → eqb (a .hours) (b .hours) ≡ h → (s && m && h) ≡ true → a ≡ b
-    go true true true p q r t = λ i. record { seconds = eqb-true (a .seconds) (b .seconds) p i; minutes = eqb-true (a .minutes) (b .minutes) q i; hours = eqb-true (a .hours) (b .hours) r i }
+    go true true true p q r t =
+        λ i.
+        record {
+          seconds = eqb-true (a .seconds) (b .seconds) p i;
+          minutes = eqb-true (a .minutes) (b .minutes) q i;
+          hours = eqb-true (a .hours) (b .hours) r i;
+        }
     go true true false p q r t = impossible cc
     go true false h p q r t = impossible cc
     go false m h p q r t = impossible cc
