@@ -29,7 +29,8 @@ items-drop file (suc n) (x ∷ items) e = items-drop file n items (then-passed (
 pub layout-length : (file : List ℕ) → askItems file layout ≡ accepted tt → preludeLen ≤ length file
 unfolding layout askItems askWord
 layout-length file e =
-    let last : askWord file 312 movi (numbered 12 312) ≡ accepted tt = then-passed (askWord file 312 movi (numbered 12 312)) (λ _. accepted tt) (items-drop file 21 layout e) .0 in
+    let last : askWord file 312 movi (numbered 12 312) ≡ accepted tt =
+    then-passed (askWord file 312 movi (numbered 12 312)) (λ _. accepted tt) (items-drop file 21 layout e) .0 in
     leb-true _ _ (ask-passed (leb preludeLen (length file)) 11 312 _ last .0)
 
 pub parsed-length : (file : List ℕ) {p : AmvPrelude} → parseOf file ≡ accepted p → preludeLen ≤ length file

@@ -2,7 +2,7 @@
 use mathlib.Core.Path.{_≡_, refl, sym, _∙_}
 use mathlib.Core.Bool.{true}
 use mathlib.Core.List.{List, [], _∷_}
-use Prim.Native.Nat.{ℕ, zero, suc, _+_, _-_, _≤_}
+use Prim.Native.Nat.{ℕ, zero, suc, _+_, _≤_}
 use native.Mathlib.Decide.{decLe}
 use native.Mathlib.Nat.{lt-of-not-le}
 use native.Mathlib.Omega.{arith}
@@ -16,7 +16,7 @@ use Rattle.fields.proofs.Laws.{le-take}
 use Rattle.fields.specs.File.{withinLimit, fileLimit}
 use Rattle.prelude.specs.Layout.{preludeLen, layout, askWord, askBody, askItem, askItems}
 use Rattle.prelude.specs.Prelude.{preludeFields, parseOf, zeros, zeroRanges, validatedOf, strictOf}
-use Rattle.prelude.specs.Stores.{Within}
+use Rattle.prelude.specs.Steps.{Within}
 use Rattle.prelude.specs.declared.layout.LayoutItem.{LayoutItem}
 use Rattle.prelude.specs.declared.layout.LayoutItem.the-variants.{Tag, Size, Body}
 use Rattle.prelude.specs.declared.prelude.AmvPrelude.{AmvPrelude}
@@ -37,7 +37,8 @@ reach-local file n h =
       | no l ↦ lt-leb n (length (take preludeLen file)) (simp length-take (omega (arith, lt-of-not-le l))) ∙ sym (lt-leb n (length file) (lt-of-not-le l))
     ]
 
-word-local : (file : List ℕ) (place value : ℕ) (wrong : Refusal) → place + 4 ≤ preludeLen → askWord (take preludeLen file) place value wrong ≡ askWord file place value wrong
+word-local : (file : List ℕ) (place value : ℕ) (wrong : Refusal) → place + 4 ≤ preludeLen
+    → askWord (take preludeLen file) place value wrong ≡ askWord file place value wrong
 unfolding askWord
 word-local file place value wrong h = rw (reach-local file (place + 4) h, le-take 4 preludeLen file place h)
 
