@@ -1,8 +1,6 @@
 -- The range of a position, as a test and as facts. Assumes nothing.
 use mathlib.Core.Path.{_≡_, refl}
 use mathlib.Core.Bool.{Bool, true, false, _&&_}
-use Prim.Native.Nat.{ℕ}
-use native.Mathlib.Omega.{arith}
 use borrow.Author.Tests.{le-leb, leb-true}
 use lib.Dec.{leb}
 use Rattle.fields.proofs.Impossible.{impossible}
@@ -24,7 +22,8 @@ module _ (p : Position) where
   unfolding inRange
   range-facts e = go _ _ _ _ refl refl refl refl e
     where
-      go : (a b c d : Bool) → leb (p .cursor) countLimit ≡ a → leb (p .frames .0) countLimit ≡ b → leb (p .samples .0) countLimit ≡ c → leb (p .blocks .0) countLimit ≡ d
+      go : (a b c d : Bool) → leb (p .cursor) countLimit ≡ a → leb (p .frames .0) countLimit ≡ b
+          → leb (p .samples .0) countLimit ≡ c → leb (p .blocks .0) countLimit ≡ d
           → (a && b && c && d) ≡ true → InRange p
       go true true true true f g h k t =
           record {
