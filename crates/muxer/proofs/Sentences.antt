@@ -15,7 +15,8 @@ use Rattle.error.specs.Sentences.{oneOf, RefusedBy}
 use Rattle.fields.specs.Le.{leBytes, put}
 use Rattle.prelude.specs.Layout.{preludeLen}
 use Rattle.muxer.specs.Sentences.{Lent, left, RefusedAt, PacketAdded, WriteSentences}
-use Rattle.muxer.specs.Writer.{outcome, fits, hasPrelude, frameLimit, packetBytes, patchRunLength, askOpen, headerQuestions, packetQuestions, trailerQuestions, headerCall, packetCall, trailerCall}
+use Rattle.muxer.specs.Writer.{outcome, fits, hasPrelude, frameLimit, packetBytes, patchRunLength, askOpen, headerQuestions, packetQuestions}
+use Rattle.muxer.specs.Writer.{trailerQuestions, headerCall, packetCall, trailerCall}
 use Rattle.muxer.specs.declared.Writer.{Writer}
 use Rattle.muxer.proofs.Writes.{header-refused, packet-refused, trailer-refused, header-accepted, packet-accepted, trailer-accepted}
 

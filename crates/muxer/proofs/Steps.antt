@@ -18,7 +18,8 @@ use Rattle.fields.specs.File.{fileLimit}
 use Rattle.fields.specs.Le.{leBytes, put}
 use Rattle.fields.proofs.Laws.{put-put, length-leBytes}
 use Rattle.prelude.specs.Layout.{preludeLen}
-use Rattle.muxer.specs.Writer.{outcome, Meets, acceptedWith, refusedWith, fits, hasPrelude, packetBytes, askOpen, packetQuestions, trailerQuestions, headerQuestions}
+use Rattle.muxer.specs.Writer.{outcome, Meets, fits, hasPrelude, packetBytes, askOpen, packetQuestions, trailerQuestions, headerQuestions}
+use Rattle.muxer.specs.Steps.{acceptedWith, refusedWith}
 use Rattle.muxer.specs.declared.Writer.{Writer}
 use Rattle.muxer.specs.declared.Wrote.{Wrote}
 

@@ -16,7 +16,8 @@ use Rattle.fields.proofs.Impossible.{impossible}
 use Rattle.prelude.specs.Built.{preludeBytes}
 use Rattle.prelude.specs.Layout.{preludeLen}
 use Rattle.prelude.proofs.BuiltLaws.{length-prelude}
-use Rattle.muxer.specs.Writer.{outcome, packetBytes, patchRunLength, headerQuestions, packetQuestions, trailerQuestions, afterHeader, afterPacket, afterTrailer, headerCall, packetCall, trailerCall}
+use Rattle.muxer.specs.Writer.{outcome, packetBytes, patchRunLength, headerQuestions, packetQuestions, trailerQuestions, afterHeader}
+use Rattle.muxer.specs.Writer.{afterPacket, afterTrailer, headerCall, packetCall, trailerCall}
 use Rattle.muxer.specs.declared.Settings.{Settings}
 use Rattle.muxer.specs.declared.Writer.{Writer}
 use Rattle.muxer.proofs.Steps.{Open, PacketPassed, TrailerPassed, header-passed, packet-passed, trailer-passed}

@@ -9,8 +9,6 @@ use Rattle.chunk.specs.Chunk.{streamTag, advanceTotal, payloadLimit, trailerByt
 use Rattle.duration.specs.Duration.{packedOf, runLength}
 use Rattle.error.specs.Answer.{Answer, accepted, refused, ask}
 use Rattle.error.specs.Refusal.{said}
-use Rattle.error.specs.declared.AmvError.{AmvError}
-use Rattle.error.specs.declared.AmvResult.the-variants.{Ok, Err}
 use Rattle.fields.specs.File.{fileLimit}
 use Rattle.fields.specs.Le.{leBytes, put}
 use Rattle.prelude.specs.Built.{preludeBytes}
@@ -136,10 +134,3 @@ pub record Meets (o : Outcome) (r : Wrote) (after : List ℕ) : Type 0 where
   pub answer : said (r .result) ≡ o .answer
   pub writer : r .writer ≡ o .writer
   pub buffer : after ≡ o .buffer
-
--- what the two ends of a call give
-abbrev pub acceptedWith : Writer → Wrote
-acceptedWith w = record { result = Ok; writer = w }
-
-abbrev pub refusedWith : AmvError → Writer → Wrote
-refusedWith e w = record { result = Err e; writer = w }

@@ -1,3 +1,5 @@
+-- `muxer::frames_after` meets its contract. The smaller of the frames and one less than the limit, plus 1, is the smaller of one more frame and the limit.
+-- Assumes nothing.
 use native.Mathlib.Omega.{arith}
 use borrow.Author.Tests.{eq-eqb, ne-eqb}
 use borrow.Author.Needs.{needs}

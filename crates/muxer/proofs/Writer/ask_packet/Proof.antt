@@ -1,3 +1,6 @@
+-- `muxer::Writer::ask_packet` meets its contract. What `ask_open` refuses is refused first (`open-err`); past it (`open-ok`) the tests are the questions
+-- 52, 53 and 54, the last one of the length that `packet_len` gives.
+-- Assumes nothing.
 use native.Mathlib.Omega.{arith}
 use mathlib.Core.Path.{sym, ap, _∙_}
 use Prim.Native.Nat.{ℕ, _+_}
@@ -48,7 +51,8 @@ has-room-requires c κs = search needs
 returns-4 : tie.Need-returns-4
 unfolding packetQuestions
 returns-4 c = let a = c .before .before .before .before .before .before .before .before .args in
-    sym (open-ok (a .self) _ (c .before .before .before .before .before .before .before .ask-open .ensures) (c .before .before .before .before .before .enum-told .given .1)
+    sym (open-ok (a .self) _ (c .before .before .before .before .before .before .before .ask-open .ensures)
+    (c .before .before .before .before .before .enum-told .given .1)
     ∙ rw (
       le-leb (a .size) payloadLimit (omega arith),
       le-leb (a .stream) 1 (omega arith),
@@ -58,7 +62,8 @@ returns-4 c = let a = c .before .before .before .before .before .before .before 
 returns-5 : tie.Need-returns-5
 unfolding packetQuestions
 returns-5 c = let a = c .before .before .before .before .before .before .before .before .args in
-    sym (open-ok (a .self) _ (c .before .before .before .before .before .before .before .ask-open .ensures) (c .before .before .before .before .before .enum-told .given .1)
+    sym (open-ok (a .self) _ (c .before .before .before .before .before .before .before .ask-open .ensures)
+    (c .before .before .before .before .before .enum-told .given .1)
     ∙ rw (
       le-leb (a .size) payloadLimit (omega arith),
       le-leb (a .stream) 1 (omega arith),
