@@ -1,6 +1,6 @@
 -- The records of a table, one after another. Assumes nothing.
 use mathlib.Core.Path.{_≡_, refl, sym, ap, _∙_}
-use mathlib.Core.Bool.{Bool, true, false, _&&_, _||_, and-false, and-true}
+use mathlib.Core.Bool.{Bool, true, false, _||_, and-false, and-true}
 use mathlib.Core.List.{List, [], _∷_}
 use mathlib.Core.Option.{some}
 use Prim.Native.Nat.{ℕ, zero, suc, _+_, _-_, _*_, _/_, _≤_, _<_}
@@ -18,7 +18,8 @@ use Rattle.demuxer.specs.Position.{countLimit}
 use Rattle.demuxer.specs.declared.position.Position.{Position}
 use Rattle.chunk_index.specs.Entry.{entryLen, entryAt, entriesFrom, entriesOf, Small}
 use Rattle.chunk_index.specs.declared.entry.ChunkIndexEntry.{ChunkIndexEntry}
-use Rattle.seek.specs.Seek.{goodEntry, goodEntries, stampOf, least, reaches, find, beyond, pastLast}
+use Rattle.seek.specs.Seek.{goodEntry, goodEntries, stampOf, reaches, find, beyond, pastLast}
+use Rattle.seek.specs.Steps.{least}
 
 abbrev pub knownTag : ChunkIndexEntry → Bool
 knownTag e = eqb (e .tag) videoTag || eqb (e .tag) audioTag
@@ -42,7 +43,8 @@ entry-small table at b =
 
 module _ (table : List ℕ) (at left : ℕ) where
   -- the records of the bytes that are left, from an offset on
-  pub entries-on : entryLen ≤ left → entriesFrom (left / entryLen) table at ≡ entryAt table at ∷ entriesFrom ((left - entryLen) / entryLen) table (at + entryLen)
+  pub entries-on : entryLen ≤ left
+      → entriesFrom (left / entryLen) table at ≡ entryAt table at ∷ entriesFrom ((left - entryLen) / entryLen) table (at + entryLen)
   unfolding entriesFrom
   entries-on h =
       let k : left / entryLen ≡ suc ((left - entryLen) / entryLen) = omega arith in
@@ -56,7 +58,8 @@ module _ (table : List ℕ) (at left : ℕ) where
 
   module _ (h : entryLen ≤ left) {e : ChunkIndexEntry} (read : e ≡ entryAt table at) where
     pub good-on : goodEntry e ≡ true
-        → goodEntries at (entriesFrom (left / entryLen) table at) ≡ goodEntries (at + entryLen) (entriesFrom ((left - entryLen) / entryLen) table (at + entryLen))
+        → goodEntries at (entriesFrom (left / entryLen) table at)
+        ≡ goodEntries (at + entryLen) (entriesFrom ((left - entryLen) / entryLen) table (at + entryLen))
     unfolding goodEntries
     good-on g = rw (entries-on h, ap goodEntry (sym read) ∙ g)
 

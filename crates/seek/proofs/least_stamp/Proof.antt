@@ -1,6 +1,8 @@
+-- `seek::least_stamp` meets its contract. A negative request is reached by every stamp, so the least is 0; any other request is its own natural number.
+-- The code compares what its bits say, which is the request (`back`).
+-- Assumes nothing.
 use mathlib.Core.Path.{_≡_, refl}
 use mathlib.Core.Bool.{true, false}
-use Prim.Native.Nat.{ℕ}
 use native.Mathlib.Omega.{arith}
 use lib.Dec.{T}
 use lib.IntN.{ℤ, pos, negsuc, natAbs}
@@ -10,7 +12,7 @@ use mir.Syntax.{w64}
 use mir.Val.{Fits, SFits, toZ, ofZ}
 use mir.ValLaws.{toZ-ofZ}
 use Rattle.fields.proofs.Impossible.{impossible}
-use Rattle.seek.specs.Seek.{least}
+use Rattle.seek.specs.Steps.{least}
 use Rattle.seek.proofs.least_stamp.Statement.{statement}
 use Rattle.seek.proofs.least_stamp.Tie as tie
 use Rattle.seek.proofs.least_stamp.Reads as reads
