@@ -1,4 +1,5 @@
--- A payload that is whole, and one that is short. Assumes nothing.
+-- A payload that is whole, and one that is short, told by the one test of its end; and the sample count in the part that is there.
+-- Assumes nothing.
 use mathlib.Core.Path.{_≡_, refl, sym, ap, _∙_}
 use mathlib.Core.Bool.{Bool, true, false, cond}
 use mathlib.Core.List.{List}

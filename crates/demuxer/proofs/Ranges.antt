@@ -1,4 +1,4 @@
--- The range of a position, as a test and as facts. Assumes nothing.
+-- The range of a position, as a test and as facts: the four conjuncts, each way. Assumes nothing.
 use mathlib.Core.Path.{_≡_, refl}
 use mathlib.Core.Bool.{Bool, true, false, _&&_}
 use borrow.Author.Tests.{le-leb, leb-true}

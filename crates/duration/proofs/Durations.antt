@@ -1,4 +1,4 @@
--- Comparing two run lengths. Assumes nothing.
+-- Two run lengths compared part by part, by the cases of the three tests, and the packed form read back by arithmetic. Assumes nothing.
 use mathlib.Core.Path.{_≡_, refl}
 use mathlib.Core.Bool.{Bool, true, false, _&&_}
 use Prim.Native.Nat.{ℕ, _+_, _*_, _/_, _%_, _<_}

@@ -1,4 +1,4 @@
--- No refusal has the number 0. Assumes nothing.
+-- No refusal has the number 0: case by case, each number is computed. Assumes nothing.
 use mathlib.Core.Path.{_≡_, refl}
 use mathlib.Core.Bool.{false}
 use borrow.Author.Tests.{eqb-false}

@@ -71,7 +71,7 @@ impl AmvHeader {
         AmvDuration::from_packed(self.duration_packed)
     }
 
-    // The run length in microseconds, as players count. Refuses nothing.
+    // The run length in microseconds, the unit of the frame interval. Refuses nothing.
     pub fn duration_micros(self) -> i64
         ensures { λ r. ⌜ r ≡ pos (1000000 * totalSeconds (durationOf (self .«duration_packed»))) ⌝ }
     {

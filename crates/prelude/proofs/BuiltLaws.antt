@@ -1,4 +1,4 @@
--- A built prelude, read. Assumes nothing.
+-- A built prelude, read: length, layout and zeros are computed, and each setting is read back from the bytes that hold it. Assumes nothing.
 use mathlib.Core.Path.{_≡_, refl, sym, ap, _∙_}
 use mathlib.Core.Bool.{true}
 use mathlib.Core.List.{List, _++_}

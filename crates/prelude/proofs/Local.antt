@@ -1,4 +1,4 @@
--- The prelude's questions look at the first 316 bytes alone. Assumes nothing.
+-- The prelude's questions look at the prelude's bytes alone: every item and every stretch of zeros ends within them. Assumes nothing.
 use mathlib.Core.Path.{_≡_, refl, sym, _∙_}
 use mathlib.Core.Bool.{true}
 use mathlib.Core.List.{List, [], _∷_}

@@ -1,4 +1,4 @@
--- The layout written item by item. Assumes nothing.
+-- The layout written item by item, each item within the prelude. Assumes nothing.
 use mathlib.Core.Path.{_≡_}
 use mathlib.Core.List.{List, [], _∷_}
 use Prim.Native.Nat.{ℕ, zero, suc, _+_, _≤_, _<_}

@@ -1,4 +1,5 @@
--- The records of a table, one after another. Assumes nothing.
+-- The records of a table, one after another: what a turn of a loop takes off the bytes that are left, and that only the last record counts past
+-- the end. Assumes nothing.
 use mathlib.Core.Path.{_≡_, refl, sym, ap, _∙_}
 use mathlib.Core.Bool.{Bool, true, false, _||_, and-false, and-true}
 use mathlib.Core.List.{List, [], _∷_}
