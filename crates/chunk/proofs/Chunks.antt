@@ -1,4 +1,4 @@
--- Tags and kinds. Assumes nothing.
+-- A kind keeps the tag that it was told from, by the cases of the two tests; so two kinds tell their tags. Assumes nothing.
 use mathlib.Core.Path.{_≡_, refl, sym, ap, _∙_}
 use mathlib.Core.Bool.{Bool, true, false, cond}
 use Prim.Native.Nat.{ℕ}

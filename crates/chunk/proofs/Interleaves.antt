@@ -1,4 +1,5 @@
--- The interleave check, position by position. Assumes nothing.
+-- The interleave check, position by position: what is left to ask from one position on is what is left from the next, or the refusal.
+-- Assumes nothing.
 use mathlib.Core.Path.{_≡_, ap, _∙_}
 use mathlib.Core.List.{List}
 use Prim.Native.Nat.{ℕ, _+_, _<_}

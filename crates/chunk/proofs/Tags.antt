@@ -1,4 +1,4 @@
--- The tags are those. Assumes nothing.
+-- The tags spell these characters: their bytes are computed. Assumes nothing.
 use mathlib.Core.Path.{refl}
 use Rattle.fields.specs.Le.{leBytes}
 use Rattle.chunk.specs.Tags.{Tags}

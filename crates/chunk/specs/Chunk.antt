@@ -6,6 +6,7 @@ use lib.Dec.{leb, eqb}
 use lib.ListN.{length}
 use Rattle.error.specs.Answer.{Answer, accepted, refused, ask}
 use Rattle.error.specs.Refusal.{refusalOf}
+use Rattle.fields.specs.Capped.{u32Max}
 use Rattle.fields.specs.Le.{le}
 use Rattle.chunk.specs.declared.ChunkKind.{ChunkKind}
 use Rattle.chunk.specs.declared.ChunkKind.the-variants.{Video, Audio, Other}
@@ -35,6 +36,10 @@ abbrev pub tagOf : ChunkKind → ℕ
 tagOf Video = videoTag
 tagOf Audio = audioTag
 tagOf (Other tag) = tag
+
+-- the longest payload: a length is a u32
+abbrev pub payloadLimit : ℕ
+payloadLimit = u32Max
 
 -- 01: "cursor moves 8 + length", from a chunk of a length to the next one
 abbrev pub advanceTotal : ℕ → ℕ

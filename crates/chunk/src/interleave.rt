@@ -7,7 +7,7 @@ ghost use Rattle.error.specs.Refusal.{said};
 ghost use Rattle.chunk.specs.Chunk.{kindOf};
 ghost use Rattle.chunk.specs.Interleave.{interleave, interleaveAt};
 
-// What a chunk at a position is asked.
+// What a chunk at a position is asked: frames stand at even positions (62), sound at odd ones (63), and nothing else stands (64).
 pub fn interleave_at(tag: u32, position: u64) -> AmvResult
     ensures { λ r. ⌜ said r ≡ interleaveAt (kindOf tag) position ⌝ }
 {
@@ -31,6 +31,7 @@ pub fn interleave_at(tag: u32, position: u64) -> AmvResult
     }
 }
 
+// Whether chunk tags alternate as a device writes them: the first position refused with 62, 63 or 64, then an odd count with 65.
 pub fn validate_movi_interleave(tags: &[u32]) -> AmvResult
     ensures { λ r. ⌜ said r ≡ interleave (now (tags .entry)) ⌝ }
 {

@@ -5,10 +5,10 @@ use mathlib.Core.Bool.{cond}
 use mathlib.Core.List.{List, [], _∷_, _++_}
 use lib.Dec.{eqb}
 use lib.ListN.{length, drop}
-use Rattle.chunk.specs.Chunk.{videoTag, audioTag}
+use Rattle.chunk.specs.Chunk.{videoTag, audioTag, payloadLimit}
 use Rattle.error.specs.Answer.{accepted, andThen}
 use Rattle.error.specs.Sentences.{GivesBack, RefusedBy}
-use Rattle.demuxer.specs.Sentences.{headed, longest}
+use Rattle.demuxer.specs.Sentences.{headed}
 use Rattle.demuxer.specs.declared.position.Position.{Position}
 use Rattle.chunk_index.specs.Entry.{entryLen}
 use Rattle.chunk_index.specs.Index.{records, indexOf, buildOf}
@@ -26,7 +26,7 @@ pub record EndsIn (file : List ℕ) (p : Position) (tag size : ℕ) (part : List
   pub before : List ℕ
   pub cursor : p .cursor ≡ length before
   pub is : file ≡ before ++ headed tag size part
-  pub held : size ≤ longest
+  pub held : size ≤ payloadLimit
   pub cut : length part < size
 
 pub record IndexSentences : Type 0 where

@@ -1,4 +1,5 @@
--- A payload that is whole, and one that is short. Assumes nothing.
+-- A payload that is whole, and one that is short, told by the one test of its end; and the sample count in the part that is there.
+-- Assumes nothing.
 use mathlib.Core.Path.{_≡_, refl, sym, ap, _∙_}
 use mathlib.Core.Bool.{Bool, true, false, cond}
 use mathlib.Core.List.{List}
@@ -12,6 +13,7 @@ use lib.ListN.{length, take, drop, length-take, length-drop}
 use lib.Seq.{take-all}
 use Rattle.error.specs.Answer.{Answer, accepted, ask}
 use Rattle.fields.specs.Le.{le}
+use Rattle.fields.proofs.Impossible.{impossible}
 use Rattle.parse.specs.Preamble.{preambleOf}
 use Rattle.parse.specs.declared.preamble.AmvAudioPreamble.{AmvAudioPreamble}
 use Rattle.demuxer.specs.Head.{CountIs, bodyAt, preambleCount, countOf}
@@ -37,7 +39,7 @@ module _ (file : List ℕ) (start size : ℕ) where
     where
       go : (b : Bool) → leb (start + size) (length file) ≡ b → cond b (Whole start size) Short ≡ Short
           → leb (start + size) (length file) ≡ false
-      go true p q = let z : _≡_ {A = ℕ} 0 1 = cc in absurd (omega arith)
+      go true p q = impossible cc
       go false p q = p
 
   pub body-whole : (s n : ℕ) → bodyAt file start size ≡ Whole s n → (leb (start + size) (length file) ≡ true) × (s ≡ start) × (n ≡ size)
@@ -47,7 +49,7 @@ module _ (file : List ℕ) (start size : ℕ) where
       go : (b : Bool) → leb (start + size) (length file) ≡ b → cond b (Whole start size) Short ≡ Whole s n
           → (leb (start + size) (length file) ≡ true) × (s ≡ start) × (n ≡ size)
       go true p q = (p, cc, cc)
-      go false p q = let z : _≡_ {A = ℕ} 0 1 = cc in absurd (omega arith)
+      go false p q = impossible cc
 
   pub body-placed : (s n : ℕ) → bodyAt file start size ≡ Whole s n → (s ≡ start) × (s + n ≤ length file)
   body-placed s n e =

@@ -1,10 +1,9 @@
--- The range of a position, as a test and as facts. Assumes nothing.
+-- The range of a position, as a test and as facts: the four conjuncts, each way. Assumes nothing.
 use mathlib.Core.Path.{_≡_, refl}
 use mathlib.Core.Bool.{Bool, true, false, _&&_}
-use Prim.Native.Nat.{ℕ}
-use native.Mathlib.Omega.{arith}
 use borrow.Author.Tests.{le-leb, leb-true}
 use lib.Dec.{leb}
+use Rattle.fields.proofs.Impossible.{impossible}
 use Rattle.demuxer.specs.Position.{countLimit, inRange, InRange}
 use Rattle.demuxer.specs.declared.position.Position.{Position}
 
@@ -23,7 +22,8 @@ module _ (p : Position) where
   unfolding inRange
   range-facts e = go _ _ _ _ refl refl refl refl e
     where
-      go : (a b c d : Bool) → leb (p .cursor) countLimit ≡ a → leb (p .frames .0) countLimit ≡ b → leb (p .samples .0) countLimit ≡ c → leb (p .blocks .0) countLimit ≡ d
+      go : (a b c d : Bool) → leb (p .cursor) countLimit ≡ a → leb (p .frames .0) countLimit ≡ b
+          → leb (p .samples .0) countLimit ≡ c → leb (p .blocks .0) countLimit ≡ d
           → (a && b && c && d) ≡ true → InRange p
       go true true true true f g h k t =
           record {
@@ -32,7 +32,7 @@ module _ (p : Position) where
             samples-in = leb-true (p .samples .0) countLimit h;
             blocks-in = leb-true (p .blocks .0) countLimit k;
           }
-      go true true true false f g h k t = let z : _≡_ {A = ℕ} 0 1 = cc in absurd (omega arith)
-      go true true false d f g h k t = let z : _≡_ {A = ℕ} 0 1 = cc in absurd (omega arith)
-      go true false c d f g h k t = let z : _≡_ {A = ℕ} 0 1 = cc in absurd (omega arith)
-      go false b c d f g h k t = let z : _≡_ {A = ℕ} 0 1 = cc in absurd (omega arith)
+      go true true true false f g h k t = impossible cc
+      go true true false d f g h k t = impossible cc
+      go true false c d f g h k t = impossible cc
+      go false b c d f g h k t = impossible cc

@@ -10,21 +10,23 @@ use native.Mathlib.Omega.{arith}
 use borrow.Author.Tests.{le-leb, lt-leb, eqb-true, ne-eqb}
 use lib.Dec.{eqb}
 use lib.ListN.{length, length-append}
-use Rattle.chunk.specs.Chunk.{videoTag, audioTag, trailerBytes, kindOf}
+use Rattle.chunk.specs.Chunk.{videoTag, audioTag, trailerBytes, payloadLimit, kindOf}
 use Rattle.chunk.specs.declared.ChunkKind.the-variants.{Other}
 use Rattle.error.proofs.Answers.{clash, both}
 use Rattle.error.specs.Answer.{refused}
 use Rattle.error.specs.Sentences.{RefusedBy}
 use Rattle.error.specs.declared.Refusal.{Refusal}
+use Rattle.fields.specs.Capped.{u32Max}
 use Rattle.fields.specs.File.{fileLimit}
 use Rattle.fields.specs.Le.{le, leBytes}
 use Rattle.fields.proofs.Laws.{le-append-right, le-leBytes}
+use Rattle.fields.proofs.Impossible.{impossible}
 use Rattle.demuxer.specs.Head.{trailerTag, trailerSize, isTrailer, kindHead, headAt, countOf}
 use Rattle.demuxer.specs.Read.{Reading, ReadAnswer, packet, End, payloadAt, readFrame, readSound, readHead, readChunk, readOf}
 use Rattle.demuxer.specs.Read as read
 use Rattle.demuxer.specs.Packet.{durationOf, ticks}
 use Rattle.demuxer.specs.Position.{InRange}
-use Rattle.demuxer.specs.Sentences.{Gives, moved, AtCursor, headed, longest, asAnswer, ReadSentences}
+use Rattle.demuxer.specs.Sentences.{Gives, moved, AtCursor, headed, asAnswer, ReadSentences}
 use Rattle.demuxer.specs.declared.head.Head.{Head}
 use Rattle.demuxer.specs.declared.head.Head.the-variants as head
 use Rattle.demuxer.specs.declared.walker.Walker.{Walker}
@@ -75,7 +77,7 @@ unfolding readFrame readSound
 cut-short file w size h = let t = lt-leb (w .position .cursor + 8 + size) (length file) h in (rw t, rw t)
 
 module _ (file part : List ℕ) (w : Walker) (tag size : ℕ) (a : AtCursor file w (headed tag size part)) (going : w .end ≡ false)
-    (t : tag ≤ longest) (s : size ≤ longest) where
+    (t : tag ≤ u32Max) (s : size ≤ payloadLimit) where
   kind-read : isTrailer tag size ≡ false → readOf file w ≡ readHead file w (kindHead (kindOf tag) size)
   kind-read n = stands file w a going (chunk-suffix (a .before) part tag size (omega arith) (omega arith) n)
 
@@ -96,7 +98,7 @@ module _ (file payload rest : List ℕ) (w : Walker) (tag : ℕ) (a : AtCursor f
 
 -- a whole frame and a whole block
 pub frame-read : (file payload rest : List ℕ) (w : Walker) → AtCursor file w (headed videoTag (length payload) (payload ++ rest)) → w .end ≡ false
-    → length payload ≤ longest
+    → length payload ≤ payloadLimit
     → let p = w .position in
     Gives file w (packet (record { stream = 0; payload = payload; stamp = p .frames .0; duration = some 1 }))
     (moved w (p .cursor + (8 + length payload)) (p .frames .0 + 1) (p .samples .0) (p .blocks .0))
@@ -109,7 +111,7 @@ frame-read file payload rest w a going s =
     )
 
 pub sound-read : (file payload rest : List ℕ) (w : Walker) → AtCursor file w (headed audioTag (length payload) (payload ++ rest)) → w .end ≡ false
-    → length payload ≤ longest
+    → length payload ≤ payloadLimit
     → let p = w .position in
     Gives file w (packet (record { stream = 1; payload = payload; stamp = p .samples .0; duration = ticks (durationOf (countOf payload)) }))
     (moved w (p .cursor + (8 + length payload)) (p .frames .0) (p .samples .0 + countOf payload) (p .blocks .0 + 1))
@@ -121,7 +123,7 @@ sound-read file payload rest w a going s =
       payload-is file payload rest w audioTag a going,
     )
 
-counted : (state rest : List ℕ) (n : ℕ) → length state ≡ 4 → n ≤ longest → countOf (state ++ (leBytes 4 n ++ rest)) ≡ n
+counted : (state rest : List ℕ) (n : ℕ) → length state ≡ 4 → n ≤ u32Max → countOf (state ++ (leBytes 4 n ++ rest)) ≡ n
 counted state rest n e h =
     let xs : List ℕ = state ++ (leBytes 4 n ++ rest) in
     let four : le 4 xs 4 ≡ n =
@@ -134,8 +136,8 @@ counted state rest n e h =
 -- ---- of every read
 
 refused-read : (x : ReadAnswer) {r : Refusal} → asAnswer x ≡ refused r → x ≡ read.refused r
-refused-read (packet p) e = let z : _≡_ {A = ℕ} 0 1 = cc in absurd (omega arith)
-refused-read End e = let z : _≡_ {A = ℕ} 0 1 = cc in absurd (omega arith)
+refused-read (packet p) e = impossible cc
+refused-read End e = impossible cc
 refused-read (read.refused q) e = cc
 
 only-short : (file : List ℕ) (w : Walker) → w .cut ≡ false → readOf file w .walker .cut ≡ true
@@ -146,7 +148,7 @@ only-short file w c =
     clear clear clear (λ h e. h) clear clear clear clear
 
 no-packet : {A : Type 0} {p : _} → packet p ≡ End → A
-no-packet e = let z : _≡_ {A = ℕ} 0 1 = cc in absurd (omega arith)
+no-packet e = impossible cc
 
 end-stays : (file : List ℕ) (w : Walker) → readOf file w .answer ≡ End → readOf file w .walker .position ≡ w .position
 end-stays file w =

@@ -16,7 +16,6 @@ use Rattle.demuxer.specs.Packet.{Shown, durationOf, ticks, shownOf}
 use Rattle.demuxer.specs.declared.head.Head.{Head}
 use Rattle.demuxer.specs.declared.head.Head.the-variants as head
 use Rattle.demuxer.specs.declared.position.Position.{Position}
-use Rattle.demuxer.specs.declared.walker.Trailer.{Trailer}
 use Rattle.demuxer.specs.declared.walker.Trailer.the-variants.{At, NotMet}
 use Rattle.demuxer.specs.declared.walker.Walker.{Walker}
 use Rattle.demuxer.specs.declared.walker.NextPacket.{NextPacket}

@@ -5,9 +5,10 @@ use mathlib.Core.Bool.{Bool, true, false}
 use mathlib.Core.List.{List, [], _∷_, _++_}
 use mathlib.Core.Option.{Option, none, some}
 use lib.ListN.{length}
-use Rattle.chunk.specs.Chunk.{videoTag, audioTag, trailerBytes}
+use Rattle.chunk.specs.Chunk.{videoTag, audioTag, trailerBytes, payloadLimit}
 use Rattle.error.specs.Answer.{Answer, accepted, refused, numbered}
 use Rattle.error.specs.Sentences.{GivesBack, RefusedBy}
+use Rattle.fields.specs.Capped.{u32Max}
 use Rattle.fields.specs.File.{fileLimit}
 use Rattle.fields.specs.Le.{le, leBytes}
 use Rattle.demuxer.specs.Head.{countOf}
@@ -50,10 +51,6 @@ pub record AtCursor (file : List ℕ) (w : Walker) (here : List ℕ) : Type 0 wh
 abbrev pub headed : ℕ → ℕ → List ℕ → List ℕ
 headed tag size bytes = leBytes 4 tag ++ (leBytes 4 size ++ bytes)
 
--- a length is a u32
-abbrev pub longest : ℕ
-longest = 4294967295
-
 -- a read's answer, as that of any call
 abbrev pub asAnswer : ReadAnswer → Answer (Option Shown)
 asAnswer (packet p) = accepted (some p)
@@ -74,32 +71,32 @@ pub record ReadSentences : Type 0 where
       → Gives file w End (marked w true (w .cut) (At (w .position .cursor)))
   -- "Tag `00dc` or `01wb`? 31, place cursor"
   pub unknown : (file rest : List ℕ) (w : Walker) (tag size : ℕ) → AtCursor file w (headed tag size rest) → w .end ≡ false
-      → tag ≤ longest → size ≤ longest → (tag ≡ videoTag → ⊥) → (tag ≡ audioTag → ⊥) → (leBytes 4 tag ++ leBytes 4 size ≡ trailerBytes → ⊥)
+      → tag ≤ u32Max → size ≤ payloadLimit → (tag ≡ videoTag → ⊥) → (tag ≡ audioTag → ⊥) → (leBytes 4 tag ++ leBytes 4 size ≡ trailerBytes → ⊥)
       → Gives file w (read.refused (numbered 31 (w .position .cursor))) w
   -- "If the payload is not whole: End, set end and cut, cursor unmoved."
   pub frame-cut : (file part : List ℕ) (w : Walker) (size : ℕ) → AtCursor file w (headed videoTag size part) → w .end ≡ false
-      → length part < size → size ≤ longest → Gives file w End (marked w true true (w .trailer))
+      → length part < size → size ≤ payloadLimit → Gives file w End (marked w true true (w .trailer))
   pub sound-cut : (file part : List ℕ) (w : Walker) (size : ℕ) → AtCursor file w (headed audioTag size part) → w .end ≡ false
-      → length part < size → size ≤ longest → Gives file w End (marked w true true (w .trailer))
+      → length part < size → size ≤ payloadLimit → Gives file w End (marked w true true (w .trailer))
   -- "Otherwise a packet: .. cursor moves 8 + length. Frames: duration 1, stamp + 1."
   pub frame : (file payload rest : List ℕ) (w : Walker) → AtCursor file w (headed videoTag (length payload) (payload ++ rest)) → w .end ≡ false
-      → length payload ≤ longest
+      → length payload ≤ payloadLimit
       → let p = w .position in
       Gives file w (packet (record { stream = 0; payload = payload; stamp = p .frames .0; duration = some 1 }))
       (moved w (p .cursor + (8 + length payload)) (p .frames .0 + 1) (p .samples .0) (p .blocks .0))
   -- "Sound: block count + 1; .. the stamp grows by it. A zero sound duration is shown as none."
   pub sound : (file payload rest : List ℕ) (w : Walker) (count : ℕ) → AtCursor file w (headed audioTag (length payload) (payload ++ rest))
-      → w .end ≡ false → length payload ≤ longest → countOf payload ≡ count → 0 < count
+      → w .end ≡ false → length payload ≤ payloadLimit → countOf payload ≡ count → 0 < count
       → let p = w .position in
       Gives file w (packet (record { stream = 1; payload = payload; stamp = p .samples .0; duration = some count }))
       (moved w (p .cursor + (8 + length payload)) (p .frames .0) (p .samples .0 + count) (p .blocks .0 + 1))
   pub silence : (file payload rest : List ℕ) (w : Walker) → AtCursor file w (headed audioTag (length payload) (payload ++ rest)) → w .end ≡ false
-      → length payload ≤ longest → countOf payload ≡ 0
+      → length payload ≤ payloadLimit → countOf payload ≡ 0
       → let p = w .position in
       Gives file w (packet (record { stream = 1; payload = payload; stamp = p .samples .0; duration = none }))
       (moved w (p .cursor + (8 + length payload)) (p .frames .0) (p .samples .0) (p .blocks .0 + 1))
   -- "duration is the u32 at payload 4, or 0 under 8 bytes"
-  pub count : (state rest : List ℕ) (n : ℕ) → length state ≡ 4 → n ≤ longest → countOf (state ++ (leBytes 4 n ++ rest)) ≡ n
+  pub count : (state rest : List ℕ) (n : ℕ) → length state ≡ 4 → n ≤ u32Max → countOf (state ++ (leBytes 4 n ++ rest)) ≡ n
   pub no-count : (payload : List ℕ) → length payload < 8 → countOf payload ≡ 0
   -- of every file and walker: only a read of a chunk that the file ends inside sets cut; End moves no position; a refusal gives the walker
   -- back; the numbers are 10, 32 and 31

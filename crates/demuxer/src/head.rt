@@ -7,11 +7,13 @@ ghost use Prim.Native.Nat.{_+_};
 ghost use lib.ListN.{take, drop};
 ghost use Rattle.demuxer.specs.Head.{isTrailer, chunkHead, headAt, bodyAt, countOf};
 
-// `AMV_END_`, as a tag and a length.
+// The trailer `AMV_END_` as a tag and a length: the first half.
 pub const TRAILER_TAG: u32 = 0x5f564d41;
 
+// The second half.
 pub const TRAILER_SIZE: u32 = 0x5f444e45;
 
+// What stands there; a chunk with the length of its payload.
 pub enum Head {
     // Fewer than 8 bytes.
     Short,
@@ -27,6 +29,7 @@ pub enum Body {
     Short,
 }
 
+// Both halves of the trailer.
 fn is_trailer(tag: u32, size: u32) -> bool
     ensures { λ r. ⌜ r ≡ isTrailer tag size ⌝ }
 {
@@ -36,6 +39,7 @@ fn is_trailer(tag: u32, size: u32) -> bool
     size == TRAILER_SIZE
 }
 
+// The head of 8 bytes that are not the trailer.
 fn chunk_head(tag: u32, size: u32) -> Head
     ensures { λ r. ⌜ r ≡ chunkHead tag size ⌝ }
 {
@@ -46,6 +50,8 @@ fn chunk_head(tag: u32, size: u32) -> Head
     }
 }
 
+// What stands at an offset, the one reading that every walk over a file shares. Refuses nothing: fewer than 8 bytes and an unknown tag are
+// cases that a caller answers.
 pub fn head_at(file: &[u8], at: usize) -> Head
     ensures { λ r. ⌜ r ≡ headAt (now (file .entry)) at ⌝ }
 {
@@ -63,7 +69,7 @@ pub fn head_at(file: &[u8], at: usize) -> Head
     chunk_head(tag, size)
 }
 
-// The payload of a length that starts at an offset.
+// The payload of a length that starts at an offset. Refuses nothing: a payload that the file ends inside is a case.
 pub fn body_at(file: &[u8], start: usize, size: u32) -> Body
     ensures { λ r. ⌜ r ≡ bodyAt (now (file .entry)) start size ⌝ }
 {
@@ -77,7 +83,8 @@ pub fn body_at(file: &[u8], start: usize, size: u32) -> Body
     Body::Whole(start, len)
 }
 
-// The sample count of a sound payload, by the preamble in the part of it that the file has; 0 where that is too short for one.
+// The sample count of a sound payload, by the preamble in the part of it that the file has; 0 where that is too short for one. Refuses
+// nothing.
 pub fn sample_count(file: &[u8], start: usize, size: u32) -> u32
     ensures { λ r. ⌜ r ≡ countOf (take size (drop start (now (file .entry)))) ⌝ }
 {

@@ -2,11 +2,13 @@
 ghost use mathlib.Core.Path.{_≡_};
 ghost use Rattle.demuxer.specs.Packet.{payloadOf, durationOf};
 
+// How long a packet lasts: in frames for a frame, in samples for sound, if that is known.
 pub enum PacketDuration {
     Ticks(u64),
     None,
 }
 
+// What a read gives: the stream, where its payload stands in the file, and when and how long it is shown.
 pub struct Packet {
     // 0 for frames, 1 for sound.
     pub stream: u32,
@@ -16,7 +18,7 @@ pub struct Packet {
     pub duration: PacketDuration,
 }
 
-// A zero sound duration is shown as none.
+// A sound block's duration by its count; a zero one is shown as none. Refuses nothing.
 pub fn shown(count: u32) -> PacketDuration
     ensures { λ r. ⌜ r ≡ durationOf count ⌝ }
 {
@@ -26,7 +28,7 @@ pub fn shown(count: u32) -> PacketDuration
     PacketDuration::Ticks(count as u64)
 }
 
-// The part of the file that a packet names; none of it where the file does not reach so far.
+// The part of the file that a packet names, so that a packet carries no bytes. Refuses nothing: empty where the file does not reach so far.
 pub fn payload(file: &[u8], packet: Packet) -> &[u8]
     ensures { λ r. ⌜ now r ≡ payloadOf (now (file .entry)) packet ⌝ }
 {

@@ -4,10 +4,13 @@ use chunk::advance_total;
 ghost use mathlib.Core.Path.{_≡_};
 ghost use Rattle.demuxer.specs.Position.{start, inRange, InRange, pastFrame, pastSound};
 
+// How many frames came before.
 pub struct FrameStamp(pub u64);
 
+// How many samples came before.
 pub struct SampleStamp(pub u64);
 
+// How many sound blocks came before.
 pub struct BlockCount(pub u64);
 
 // A chunk's offset, and the frames, samples and blocks before it.
@@ -18,10 +21,11 @@ pub struct Position {
     pub blocks: BlockCount,
 }
 
-// The most that a cursor or a counter may be.
+// The most that a cursor or a counter may be, 2 to the 62, so that a step past any chunk fits.
 pub const COUNT_LIMIT: u64 = 4611686018427387904;
 
 impl Position {
+    // The first chunk's position. Refuses nothing.
     pub fn new() -> Position
         ensures { λ r. ⌜ r ≡ start ⌝ }
     {
@@ -33,6 +37,7 @@ impl Position {
         }
     }
 
+    // Whether cursor and counters are each at most the limit. Refuses nothing; a caller that is given a position refuses with 32.
     pub fn in_range(self) -> bool
         ensures { λ r. ⌜ r ≡ inRange self ⌝ }
     {
@@ -51,7 +56,7 @@ impl Position {
         true
     }
 
-    // Past a frame of a length.
+    // The position past a frame of a length. Refuses nothing: this one is in range.
     pub fn past_frame(self, size: u32) -> Position
         requires { ⌜ InRange self ⌝ }
         ensures { λ r. ⌜ r ≡ pastFrame self size ⌝ }
@@ -66,7 +71,7 @@ impl Position {
         }
     }
 
-    // Past a sound block of a length and a sample count.
+    // The position past a sound block of a length and a sample count. Refuses nothing: this one is in range.
     pub fn past_sound(self, size: u32, count: u32) -> Position
         requires { ⌜ InRange self ⌝ }
         ensures { λ r. ⌜ r ≡ pastSound self size count ⌝ }

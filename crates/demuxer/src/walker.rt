@@ -20,6 +20,7 @@ pub enum Trailer {
     NotMet,
 }
 
+// The state of reading, which every read returns anew: where it stands, whether it has ended, whether the file was cut, and the trailer.
 pub struct Walker {
     pub position: Position,
     pub end: bool,
@@ -27,6 +28,7 @@ pub struct Walker {
     pub trailer: Trailer,
 }
 
+// What a read answers.
 pub enum NextPacket {
     Packet(Packet),
     End,
@@ -43,6 +45,7 @@ impl Walker {
     // The offset that a fresh walker stands at.
     pub const START: u64 = AmvPrelude::LEN as u64;
 
+    // A walker at the first chunk, with no mark. Refuses nothing.
     pub fn new() -> Walker
         ensures { λ r. ⌜ r ≡ fresh ⌝ }
     {
@@ -54,6 +57,7 @@ impl Walker {
         }
     }
 
+    // Ended inside a chunk.
     fn cut_off(mut self) -> Walker
         ensures { λ r. ⌜ r ≡ cutOff self ⌝ }
     {
@@ -62,6 +66,7 @@ impl Walker {
         self
     }
 
+    // Ended at the trailer.
     fn at_trailer(self) -> Walker
         ensures { λ r. ⌜ r ≡ atTrailer self ⌝ }
     {
@@ -87,6 +92,7 @@ impl Walker {
         }
     }
 
+    // The packet of a frame's header at the cursor, or End where the file is cut.
     fn read_frame(self, file: &[u8], size: u32) -> Read
         requires { ⌜ InRange (self .position) ⌝ }
         ensures { λ r. ⌜ saidRead (now (file .entry)) r ≡ readFrame (now (file .entry)) self size ⌝ }
@@ -113,6 +119,7 @@ impl Walker {
         }
     }
 
+    // The packet of a sound block's header at the cursor, or End where the file is cut.
     fn read_sound(self, file: &[u8], size: u32) -> Read
         requires { ⌜ InRange (self .position) ⌝ }
         ensures { λ r. ⌜ saidRead (now (file .entry)) r ≡ readSound (now (file .entry)) self size ⌝ }
@@ -165,6 +172,8 @@ impl Walker {
         }
     }
 
+    // The next packet and the walker past it, or End at the trailer or at the file's end. Refused in this order, with the walker as it was: a
+    // file past the limit with 10, a position out of range with 32, an unknown tag with 31 at the cursor.
     pub fn next_packet(self, file: &[u8]) -> Read
         ensures { λ r. ⌜ saidRead (now (file .entry)) r ≡ readOf (now (file .entry)) self ⌝ }
         ensures { λ r. ⌜ Placed (now (file .entry)) self (r .answer) ⌝ }

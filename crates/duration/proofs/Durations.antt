@@ -1,4 +1,4 @@
--- Comparing two run lengths. Assumes nothing.
+-- Two run lengths compared part by part, by the cases of the three tests, and the packed form read back by arithmetic. Assumes nothing.
 use mathlib.Core.Path.{_≡_, refl}
 use mathlib.Core.Bool.{Bool, true, false, _&&_}
 use Prim.Native.Nat.{ℕ, _+_, _*_, _/_, _%_, _<_}
@@ -6,6 +6,7 @@ use native.Mathlib.Omega.{arith}
 use lib.Dec.{eqb}
 use borrow.Author.Tests.{eq-eqb, eqb-true}
 use Rattle.fields.specs.Le.{le, leBytes}
+use Rattle.fields.proofs.Impossible.{impossible}
 use Rattle.duration.specs.Duration.{packedOf, durationOf, totalSeconds, sameDuration, consistency}
 use Rattle.duration.specs.declared.AmvDuration.{AmvDuration}
 use Rattle.duration.specs.declared.DurationConsistency.the-variants.{Exact, TruncatedByOneSecond, Mismatch}
@@ -28,10 +29,16 @@ pub same-equal : (a b : AmvDuration) → sameDuration a b ≡ true → a ≡ b
 same-equal a b e = go _ _ _ refl refl refl e
   where
     go : (s m h : Bool) → eqb (a .seconds) (b .seconds) ≡ s → eqb (a .minutes) (b .minutes) ≡ m → eqb (a .hours) (b .hours) ≡ h → (s && m && h) ≡ true → a ≡ b
-    go true true true p q r t = λ i. record { seconds = eqb-true (a .seconds) (b .seconds) p i; minutes = eqb-true (a .minutes) (b .minutes) q i; hours = eqb-true (a .hours) (b .hours) r i }
-    go true true false p q r t = let z : _≡_ {A = ℕ} 0 1 = cc in absurd (omega arith)
-    go true false h p q r t = let z : _≡_ {A = ℕ} 0 1 = cc in absurd (omega arith)
-    go false m h p q r t = let z : _≡_ {A = ℕ} 0 1 = cc in absurd (omega arith)
+    go true true true p q r t =
+        λ i.
+        record {
+          seconds = eqb-true (a .seconds) (b .seconds) p i;
+          minutes = eqb-true (a .minutes) (b .minutes) q i;
+          hours = eqb-true (a .hours) (b .hours) r i;
+        }
+    go true true false p q r t = impossible cc
+    go true false h p q r t = impossible cc
+    go false m h p q r t = impossible cc
 
 -- the packed form keeps the three parts
 pub packed-back : (d : AmvDuration) → d .seconds < 256 → d .minutes < 256 → d .hours < 256 → durationOf (packedOf d) ≡ d

@@ -2,6 +2,7 @@
 ghost use mathlib.Core.Path.{_≡_};
 ghost use Rattle.duration.specs.Duration.{durationOf, packedOf, totalSeconds, ofSeconds, runLength, sameDuration, consistency, deviceConformant};
 
+// A run length as the file has it.
 pub struct AmvDuration {
     pub seconds: u8,
     pub minutes: u8,
@@ -17,6 +18,7 @@ pub enum DurationConsistency {
 }
 
 impl AmvDuration {
+    // The run length of a packed number; its fourth byte is not looked at. Refuses nothing.
     pub fn from_packed(packed: u32) -> AmvDuration
         ensures { λ r. ⌜ r ≡ durationOf packed ⌝ }
     {
@@ -27,13 +29,14 @@ impl AmvDuration {
         }
     }
 
-    // The fourth byte is 0.
+    // The packed number, its fourth byte 0: what the writer patches into the header. Refuses nothing.
     pub fn to_packed(self) -> u32
         ensures { λ r. ⌜ r ≡ packedOf self ⌝ }
     {
         (self.seconds as u32) + 256 * (self.minutes as u32) + 65536 * (self.hours as u32)
     }
 
+    // The run length in seconds. Refuses nothing.
     pub fn total_seconds(self) -> u32
         ensures { λ r. ⌜ r ≡ totalSeconds self ⌝ }
     {
@@ -54,6 +57,7 @@ impl AmvDuration {
         }
     }
 
+    // The run length of so many frames, rounded down to seconds, zeros for fps 0. Refuses nothing.
     pub fn from_frame_count(frame_count: u64, fps: u32) -> AmvDuration
         ensures { λ r. ⌜ r ≡ runLength «frame_count» fps ⌝ }
     {
@@ -67,6 +71,7 @@ impl AmvDuration {
         AmvDuration::from_seconds(frame_count / (fps as u64))
     }
 
+    // Whether all three parts are equal.
     fn equals(self, other: AmvDuration) -> bool
         ensures { λ r. ⌜ r ≡ sameDuration self other ⌝ }
     {
@@ -79,12 +84,14 @@ impl AmvDuration {
         self.hours == other.hours
     }
 
+    // Whether this is the run length of so many frames. Refuses nothing.
     pub fn is_consistent_with_frame_count(self, frame_count: u64, fps: u32) -> bool
         ensures { λ r. ⌜ r ≡ sameDuration self (runLength «frame_count» fps) ⌝ }
     {
         self.equals(AmvDuration::from_frame_count(frame_count, fps))
     }
 
+    // The same as a grade, since some devices write one second less. Refuses nothing.
     pub fn consistency_with_frame_count(self, frame_count: u64, fps: u32) -> DurationConsistency
         ensures { λ r. ⌜ r ≡ consistency self (runLength «frame_count» fps) ⌝ }
     {
@@ -100,7 +107,7 @@ impl AmvDuration {
 }
 
 impl DurationConsistency {
-    // Both shapes that devices write.
+    // Whether a device may have written it: exact, or one second less. Refuses nothing.
     pub fn is_device_conformant(self) -> bool
         ensures { λ r. ⌜ r ≡ deviceConformant self ⌝ }
     {

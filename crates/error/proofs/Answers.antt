@@ -2,7 +2,7 @@
 use mathlib.Core.Path.{_≡_, refl, sym, ap, _∙_}
 use mathlib.Core.Bool.{Bool, true, false, _&&_}
 use Prim.Native.Nat.{ℕ}
-use native.Mathlib.Omega.{arith}
+use Rattle.fields.proofs.Impossible.{impossible}
 use Rattle.error.specs.Answer.{Answer, accepted, refused, ask, andThen}
 use Rattle.error.specs.Refusal.{refusalOf, said}
 use Rattle.error.specs.declared.AmvError.{AmvError}
@@ -12,11 +12,11 @@ use Rattle.error.specs.declared.AmvResult.the-variants.{Ok, Err}
 
 -- no accepted answer is a refusal
 pub never : {A B : Type 0} {x : A} {r : Refusal} → _≡_ {A = Answer A} (accepted x) (refused r) → B
-never e = let z : _≡_ {A = ℕ} 0 1 = cc in absurd (omega arith)
+never e = impossible cc
 
 -- and nothing is both
 pub clash : {A : Type 0} {b : Bool} → b ≡ true → b ≡ false → A
-clash p q = let z : _≡_ {A = ℕ} 0 1 = cc in absurd (omega arith)
+clash p q = impossible cc
 
 -- equal answers accept the same value
 pub accepted-same : {A : Type 0} {x y : A} → _≡_ {A = Answer A} (accepted x) (accepted y) → x ≡ y

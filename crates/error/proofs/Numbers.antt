@@ -1,11 +1,17 @@
--- No refusal has the number 0. Assumes nothing.
+-- No refusal has the number 0: case by case, each number is computed. Assumes nothing.
 use mathlib.Core.Path.{_≡_, refl}
 use mathlib.Core.Bool.{false}
 use borrow.Author.Tests.{eqb-false}
 use lib.Dec.{eqb}
 use Rattle.error.specs.Refusal.{refusalOf}
 use Rattle.error.specs.declared.AmvError.{AmvError}
-use Rattle.error.specs.declared.AmvError.the-variants.{FileTooLong, Cut, WrongTag, WrongSize, ZeroFps, WrongMicros, WrongFlag, NonzeroReserved, NonzeroByte, WrongFormat, WrongChannels, WrongAverage, WrongAlign, WrongBits, WrongCbSize, PreambleTooShort, NoSamples, WaveFormatTooShort, HeaderTooShort, ChunkHeaderTooShort, UnknownTag, StateOutOfRange, TableTooShort, TableRagged, NoSuchStream, BadRecord, AlreadyBegun, NotBegun, PayloadTooLong, PacketOfNoStream, NoRoom, AlreadyEnded, PreludeMissing, ChunkCut, AfterTrailer, VideoAtOddPosition, AudioAtEvenPosition, OtherAtPosition, OddChunkCount}
+use Rattle.error.specs.declared.AmvError.the-variants.{FileTooLong, Cut, WrongTag, WrongSize, ZeroFps, WrongMicros, WrongFlag, NonzeroReserved}
+use Rattle.error.specs.declared.AmvError.the-variants.{NonzeroByte, WrongFormat, WrongChannels, WrongAverage, WrongAlign, WrongBits}
+use Rattle.error.specs.declared.AmvError.the-variants.{WrongCbSize, PreambleTooShort, NoSamples, WaveFormatTooShort, HeaderTooShort}
+use Rattle.error.specs.declared.AmvError.the-variants.{ChunkHeaderTooShort, UnknownTag, StateOutOfRange, TableTooShort, TableRagged}
+use Rattle.error.specs.declared.AmvError.the-variants.{NoSuchStream, BadRecord, AlreadyBegun, NotBegun, PayloadTooLong, PacketOfNoStream}
+use Rattle.error.specs.declared.AmvError.the-variants.{NoRoom, AlreadyEnded, PreludeMissing, ChunkCut, AfterTrailer, VideoAtOddPosition}
+use Rattle.error.specs.declared.AmvError.the-variants.{AudioAtEvenPosition, OtherAtPosition, OddChunkCount}
 
 no-zero : (e : AmvError) → eqb (refusalOf e .number) 0 ≡ false
 no-zero FileTooLong = refl

@@ -1,4 +1,5 @@
--- The numbers of questions that are asked one after another. Assumes nothing.
+-- The numbers of questions that are asked one after another: listed for each, they are listed for all, by the cases of the answers.
+-- Assumes nothing.
 use mathlib.Core.Path.{_≡_, refl}
 use Prim.Native.Nat.{ℕ}
 use mathlib.Core.Bool.{Bool, true, false, _||_}

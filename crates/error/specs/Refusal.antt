@@ -2,7 +2,13 @@
 use Rattle.error.specs.Answer.{Answer, accepted, refused, numbered}
 use Rattle.error.specs.declared.Refusal.{Refusal}
 use Rattle.error.specs.declared.AmvError.{AmvError}
-use Rattle.error.specs.declared.AmvError.the-variants.{FileTooLong, Cut, WrongTag, WrongSize, ZeroFps, WrongMicros, WrongFlag, NonzeroReserved, NonzeroByte, WrongFormat, WrongChannels, WrongAverage, WrongAlign, WrongBits, WrongCbSize, PreambleTooShort, NoSamples, WaveFormatTooShort, HeaderTooShort, ChunkHeaderTooShort, UnknownTag, StateOutOfRange, TableTooShort, TableRagged, NoSuchStream, BadRecord, AlreadyBegun, NotBegun, PayloadTooLong, PacketOfNoStream, NoRoom, AlreadyEnded, PreludeMissing, ChunkCut, AfterTrailer, VideoAtOddPosition, AudioAtEvenPosition, OtherAtPosition, OddChunkCount}
+use Rattle.error.specs.declared.AmvError.the-variants.{FileTooLong, Cut, WrongTag, WrongSize, ZeroFps, WrongMicros, WrongFlag, NonzeroReserved}
+use Rattle.error.specs.declared.AmvError.the-variants.{NonzeroByte, WrongFormat, WrongChannels, WrongAverage, WrongAlign, WrongBits}
+use Rattle.error.specs.declared.AmvError.the-variants.{WrongCbSize, PreambleTooShort, NoSamples, WaveFormatTooShort, HeaderTooShort}
+use Rattle.error.specs.declared.AmvError.the-variants.{ChunkHeaderTooShort, UnknownTag, StateOutOfRange, TableTooShort, TableRagged}
+use Rattle.error.specs.declared.AmvError.the-variants.{NoSuchStream, BadRecord, AlreadyBegun, NotBegun, PayloadTooLong, PacketOfNoStream}
+use Rattle.error.specs.declared.AmvError.the-variants.{NoRoom, AlreadyEnded, PreludeMissing, ChunkCut, AfterTrailer, VideoAtOddPosition}
+use Rattle.error.specs.declared.AmvError.the-variants.{AudioAtEvenPosition, OtherAtPosition, OddChunkCount}
 use Rattle.error.specs.declared.AmvResult.{AmvResult}
 use Rattle.error.specs.declared.AmvResult.the-variants.{Ok, Err}
 

@@ -9,7 +9,7 @@ pub struct Refusal {
     pub place: u64,
 }
 
-// A case carries its place where 01 does not fix it.
+// Why a call refuses: a case for each question, carrying its place where 01 does not fix it. `refusal` gives each case's number.
 pub enum AmvError {
     FileTooLong,
     Cut(u64),
@@ -52,13 +52,14 @@ pub enum AmvError {
     OddChunkCount(u64),
 }
 
-// What a call answers that only checks.
+// What a call answers that only checks: nothing to say, or a refusal.
 pub enum AmvResult {
     Ok,
     Err(AmvError),
 }
 
 impl AmvError {
+    // Number and place of a case, in the order of 01's numbers.
     fn refusal(self) -> Refusal
         ensures { λ r. ⌜ r ≡ refusalOf self ⌝ }
     {
@@ -198,12 +199,14 @@ impl AmvError {
         }
     }
 
+    // The number of the question that was answered with no. Refuses nothing.
     pub fn number(self) -> u32
         ensures { λ r. ⌜ r ≡ refusalOf self .number ⌝ }
     {
         self.refusal().number
     }
 
+    // The place of the refusal: a byte offset, a position in the interleave check, or 0. Refuses nothing.
     pub fn place(self) -> u64
         ensures { λ r. ⌜ r ≡ refusalOf self .place ⌝ }
     {
@@ -212,7 +215,7 @@ impl AmvError {
 }
 
 impl AmvResult {
-    // 0 where the call is accepted.
+    // The refusal's number, 0 where the call is accepted: an answer as one number, for callers that have no enums. Refuses nothing.
     pub fn number(self) -> u32
         ensures { λ r. ⌜ r ≡ numberOf (said self) ⌝ }
     {
@@ -222,6 +225,7 @@ impl AmvResult {
         }
     }
 
+    // The refusal's place, 0 where the call is accepted. Refuses nothing.
     pub fn place(self) -> u64
         ensures { λ r. ⌜ r ≡ placeOf (said self) ⌝ }
     {

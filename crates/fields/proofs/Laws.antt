@@ -3,12 +3,14 @@ use mathlib.Core.Path.{_≡_, refl, sym, ap, _∙_}
 use mathlib.Core.List.{List, [], _∷_, _++_, append-assoc}
 use Prim.Native.Nat.{ℕ, zero, suc, _+_, _-_, _*_, _^_, _/_, _%_, _≤_, _<_}
 use native.Mathlib.Decide.{decLe}
-use native.Mathlib.Nat.{pow-suc, mul-assoc, mul-left-comm, add-zero, zero-add, add-suc, suc-add, lt-of-not-le, div-one, div-div-eq-div-mul, pow-succ', one-le-pow}
+use native.Mathlib.Nat.{pow-suc, mul-assoc, mul-left-comm, add-zero, zero-add, add-suc, suc-add, lt-of-not-le, div-one, div-div-eq-div-mul, pow-succ'}
+use native.Mathlib.Nat.{one-le-pow}
 use native.Mathlib.Numerals.{add-one}
 use native.Mathlib.Omega.{arith}
 use lib.Arith.{mod-mul}
 use lib.ListN.{length, getD, set, length-set, take, drop, length-append, length-take, length-drop, take-append-drop, List·getD-append, List·getD-eq-default}
-use lib.Seq.{paste, paste-suc, take-length, length-take-le, drop-cons, set-split, getD-append-add, getD-drop, getD-take, drop-append-add, drop-drop, drop-at, take-at, take-add, take-take, take-append-add}
+use lib.Seq.{paste, paste-suc, take-length, length-take-le, drop-cons, set-split, getD-append-add, getD-drop, getD-take, drop-append-add, drop-drop}
+use lib.Seq.{drop-at, take-at, take-add, take-take, take-append-add}
 use Rattle.fields.specs.Le.{le, leBytes, put, putLe, Bytes}
 
 -- ---- reading

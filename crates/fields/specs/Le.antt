@@ -1,5 +1,4 @@
 -- Little-endian fields of any width in a list of bytes. Document 01: "Multi-byte fields are little-endian". Assumes nothing.
-use mathlib.Core.Path.{_≡_}
 use Prim.Native.Nat.{ℕ, zero, suc, _+_, _*_, _/_, _%_, _<_}
 use mathlib.Core.List.{List, [], _∷_, _++_}
 use lib.ListN.{length, take, drop, getD}
@@ -25,8 +24,3 @@ putLe w xs off v = put xs off (leBytes w v)
 -- every element is a byte
 unfoldable pub Bytes : List ℕ → Type 0
 Bytes xs = (i : ℕ) → getD xs i 0 < 256
-
--- a byte as a number of a wider type
-pub record Widened (b r : ℕ) : Type 0 where
-  pub same : r ≡ b
-  pub small : r < 256

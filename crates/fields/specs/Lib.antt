@@ -1,3 +1,4 @@
 pub mod File
 pub mod Le
 pub mod Capped
+pub mod Steps

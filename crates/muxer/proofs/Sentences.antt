@@ -8,12 +8,15 @@ use native.Mathlib.Omega.{arith}
 use borrow.Author.Tests.{lt-ltb, le-ltb}
 use lib.Dec.{leb, ltb, eqb}
 use lib.ListN.{length}
+use Rattle.chunk.specs.Chunk.{payloadLimit}
 use Rattle.duration.specs.Duration.{packedOf, runLength}
 use Rattle.error.specs.Answer.{Answer, accepted, refused, ask}
 use Rattle.error.specs.Sentences.{oneOf, RefusedBy}
 use Rattle.fields.specs.Le.{leBytes, put}
+use Rattle.prelude.specs.Layout.{preludeLen}
 use Rattle.muxer.specs.Sentences.{Lent, left, RefusedAt, PacketAdded, WriteSentences}
-use Rattle.muxer.specs.Writer.{outcome, fits, hasPrelude, packetBytes, patchRunLength, askOpen, headerQuestions, packetQuestions, trailerQuestions, headerCall, packetCall, trailerCall}
+use Rattle.muxer.specs.Writer.{outcome, fits, hasPrelude, frameLimit, packetBytes, patchRunLength, askOpen, headerQuestions, packetQuestions}
+use Rattle.muxer.specs.Writer.{trailerQuestions, headerCall, packetCall, trailerCall}
 use Rattle.muxer.specs.declared.Writer.{Writer}
 use Rattle.muxer.proofs.Writes.{header-refused, packet-refused, trailer-refused, header-accepted, packet-accepted, trailer-accepted}
 
@@ -45,11 +48,11 @@ unfolding headerQuestions
 header-asks w room =
     let ns : List ℕ = 50 ∷ 55 ∷ 56 ∷ 54 ∷ [] in
     let p = w .written in
-    let last : Answer Unit = ask (fits 316 room) 54 p (accepted tt) in
+    let last : Answer Unit = ask (fits preludeLen room) 54 p (accepted tt) in
     let third : Answer Unit = ask (hasPrelude w) 56 p last in
     asks ns p (not (w .begun)) 50 (ask (not (w .ended)) 55 p third) refl
     (asks ns p (not (w .ended)) 55 third refl
-    (asks ns p (hasPrelude w) 56 last refl (asks ns p (fits 316 room) 54 (accepted tt) refl (none ns p))))
+    (asks ns p (hasPrelude w) 56 last refl (asks ns p (fits preludeLen room) 54 (accepted tt) refl (none ns p))))
 
 packet-asks : (w : Writer) (size stream room : ℕ)
     → Asks (51 ∷ 55 ∷ 56 ∷ 52 ∷ 53 ∷ 54 ∷ []) (w .written) (packetQuestions w size stream room)
@@ -60,8 +63,8 @@ packet-asks w size stream room =
     let f : Bool = fits (w .written + (8 + size)) room in
     let last : Answer Unit = ask f 54 p (accepted tt) in
     let second : Answer Unit = ask (leb stream 1) 53 p last in
-    opens ns w (ask (leb size 4294967295) 52 p second) refl refl refl
-    (asks ns p (leb size 4294967295) 52 second refl
+    opens ns w (ask (leb size payloadLimit) 52 p second) refl refl refl
+    (asks ns p (leb size payloadLimit) 52 second refl
     (asks ns p (leb stream 1) 53 last refl (asks ns p f 54 (accepted tt) refl (none ns p))))
 
 trailer-asks : (w : Writer) (room : ℕ) → Asks (51 ∷ 55 ∷ 56 ∷ 54 ∷ []) (w .written) (trailerQuestions w room)
@@ -100,7 +103,7 @@ same-lent e = λ i. record { writer = e .0 i; buffer = e .1 i }
 
 -- ---- what an accepted packet leaves
 
-at-cap : (b : Bool) (frames : ℕ) → frames ≡ 18446744073709551615 → cond b (min (frames + 1) 18446744073709551615) frames ≡ frames
+at-cap : (b : Bool) (frames : ℕ) → frames ≡ frameLimit → cond b (min (frames + 1) frameLimit) frames ≡ frames
 at-cap true frames h = omega arith
 at-cap false frames h = refl
 

@@ -7,40 +7,39 @@ use native.Mathlib.Omega.{arith}
 use borrow.Author.Tests.{le-leb, leb-true, not-true}
 use lib.Dec.{leb}
 use lib.ListN.{length, length-append}
-use Rattle.chunk.specs.Chunk.{streamTag}
+use Rattle.chunk.specs.Chunk.{streamTag, payloadLimit}
 use Rattle.error.specs.Answer.{Answer, accepted, refused, ask, andThen}
 use Rattle.error.specs.Refusal.{refusalOf, said}
 use Rattle.error.specs.declared.AmvError.{AmvError}
 use Rattle.error.specs.declared.AmvResult.{AmvResult}
 use Rattle.error.specs.declared.AmvResult.the-variants.{Ok, Err}
-use Rattle.error.proofs.Answers.{then-ok, then-err, ask-passed}
+use Rattle.error.proofs.Answers.{then-ok, then-err, ask-passed, both}
+use Rattle.fields.specs.File.{fileLimit}
 use Rattle.fields.specs.Le.{leBytes, put}
 use Rattle.fields.proofs.Laws.{put-put, length-leBytes}
-use Rattle.muxer.specs.Writer.{outcome, Meets, acceptedWith, refusedWith, fits, hasPrelude, packetBytes, askOpen, packetQuestions, trailerQuestions, headerQuestions}
+use Rattle.prelude.specs.Layout.{preludeLen}
+use Rattle.muxer.specs.Writer.{outcome, Meets, fits, hasPrelude, packetBytes, askOpen, packetQuestions, trailerQuestions, headerQuestions}
+use Rattle.muxer.specs.Steps.{acceptedWith, refusedWith}
 use Rattle.muxer.specs.declared.Writer.{Writer}
 use Rattle.muxer.specs.declared.Wrote.{Wrote}
 
 -- ---- room
 
-pub fits-yes : (end room : ℕ) → end ≤ room → end ≤ 4294967295 → fits end room ≡ true
-fits-yes end room a b = rw (le-leb end room a, le-leb end 4294967295 b)
+pub fits-yes : (end room : ℕ) → end ≤ room → end ≤ fileLimit → fits end room ≡ true
+fits-yes end room a b = rw (le-leb end room a, le-leb end fileLimit b)
 
-pub fits-no : (end room : ℕ) → min room 4294967295 < end → fits end room ≡ false
-fits-no end room h = go (leb end room) (leb end 4294967295) refl refl
+pub fits-no : (end room : ℕ) → min room fileLimit < end → fits end room ≡ false
+fits-no end room h = go (leb end room) (leb end fileLimit) refl refl
   where
-    go : (a b : Bool) → leb end room ≡ a → leb end 4294967295 ≡ b → a && b ≡ false
-    go true true p q = let x = leb-true end room p in let y = leb-true end 4294967295 q in absurd (omega arith)
+    go : (a b : Bool) → leb end room ≡ a → leb end fileLimit ≡ b → a && b ≡ false
+    go true true p q = let x = leb-true end room p in let y = leb-true end fileLimit q in absurd (omega arith)
     go true false p q = refl
     go false b p q = refl
 
-both : (a b : Bool) → a && b ≡ true → (a ≡ true) × (b ≡ true)
-both true b h = (refl, h)
-both false b h = let z : _≡_ {A = ℕ} 0 1 = cc in absurd (omega arith)
-
-pub fits-ends : (end room : ℕ) → fits end room ≡ true → (end ≤ room) × (end ≤ 4294967295)
+pub fits-ends : (end room : ℕ) → fits end room ≡ true → (end ≤ room) × (end ≤ fileLimit)
 fits-ends end room h =
-    let p = both (leb end room) (leb end 4294967295) h in
-    (leb-true end room (p .0), leb-true end 4294967295 (p .1))
+    let p = both (leb end room) (leb end fileLimit) h in
+    (leb-true end room (p .0), leb-true end fileLimit (p .1))
 
 -- ---- the questions that a packet and the trailer ask first
 
@@ -93,7 +92,7 @@ put-packet xs off stream payload h p q r =
 pub record HeaderPassed (w : Writer) (room : ℕ) : Type 0 where
   pub fresh : w .begun ≡ false
   pub going : w .ended ≡ false
-  pub inside : 316 ≤ room
+  pub inside : preludeLen ≤ room
 
 pub header-passed : (w : Writer) (room : ℕ) → headerQuestions w room ≡ accepted tt → HeaderPassed w room
 unfolding headerQuestions
@@ -101,43 +100,43 @@ header-passed w room h =
     let a = ask-passed (not (w .begun)) 50 (w .written) _ h in
     let b = ask-passed (not (w .ended)) 55 (w .written) _ (a .1) in
     let c = ask-passed (hasPrelude w) 56 (w .written) _ (b .1) in
-    let d = ask-passed (fits 316 room) 54 (w .written) _ (c .1) in
-    record { fresh = not-true (w .begun) (a .0); going = not-true (w .ended) (b .0); inside = fits-ends 316 room (d .0) .0 }
+    let d = ask-passed (fits preludeLen room) 54 (w .written) _ (c .1) in
+    record { fresh = not-true (w .begun) (a .0); going = not-true (w .ended) (b .0); inside = fits-ends preludeLen room (d .0) .0 }
 
 -- a writer that takes packets
 pub record Open (w : Writer) : Type 0 where
   pub begun : w .begun ≡ true
   pub going : w .ended ≡ false
-  pub prelude : 316 ≤ w .written
+  pub prelude : preludeLen ≤ w .written
 
 open-passed : (w : Writer) (rest : Answer Unit) → askOpen w rest ≡ accepted tt → Open w × (rest ≡ accepted tt)
 open-passed w rest h =
     let a = ask-passed (w .begun) 51 (w .written) _ h in
     let b = ask-passed (not (w .ended)) 55 (w .written) _ (a .1) in
     let c = ask-passed (hasPrelude w) 56 (w .written) rest (b .1) in
-    (record { begun = a .0; going = not-true (w .ended) (b .0); prelude = leb-true 316 (w .written) (rw (a .0) at (c .0)) }, c .1)
+    (record { begun = a .0; going = not-true (w .ended) (b .0); prelude = leb-true preludeLen (w .written) (rw (a .0) at (c .0)) }, c .1)
 
 pub record PacketPassed (w : Writer) (size stream room : ℕ) : Type 0 where
   pub ready : Open w
-  pub short : size ≤ 4294967295
+  pub short : size ≤ payloadLimit
   pub known : stream ≤ 1
   pub inside : w .written + (8 + size) ≤ room
-  pub limit : w .written + (8 + size) ≤ 4294967295
+  pub limit : w .written + (8 + size) ≤ fileLimit
 
 pub packet-passed : (w : Writer) (size stream room : ℕ) → packetQuestions w size stream room ≡ accepted tt → PacketPassed w size stream room
 unfolding packetQuestions
 packet-passed w size stream room h =
     let o = open-passed w _ h in
-    let a = ask-passed (leb size 4294967295) 52 (w .written) _ (o .1) in
+    let a = ask-passed (leb size payloadLimit) 52 (w .written) _ (o .1) in
     let b = ask-passed (leb stream 1) 53 (w .written) _ (a .1) in
     let c = ask-passed (fits (w .written + (8 + size)) room) 54 (w .written) _ (b .1) in
     let d = fits-ends (w .written + (8 + size)) room (c .0) in
-    record { ready = o .0; short = leb-true size 4294967295 (a .0); known = leb-true stream 1 (b .0); inside = d .0; limit = d .1 }
+    record { ready = o .0; short = leb-true size payloadLimit (a .0); known = leb-true stream 1 (b .0); inside = d .0; limit = d .1 }
 
 pub record TrailerPassed (w : Writer) (room : ℕ) : Type 0 where
   pub ready : Open w
   pub inside : w .written + 8 ≤ room
-  pub limit : w .written + 8 ≤ 4294967295
+  pub limit : w .written + 8 ≤ fileLimit
 
 pub trailer-passed : (w : Writer) (room : ℕ) → trailerQuestions w room ≡ accepted tt → TrailerPassed w room
 unfolding trailerQuestions

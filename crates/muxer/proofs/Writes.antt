@@ -12,9 +12,12 @@ use Rattle.error.specs.Answer.{Answer, accepted, refused}
 use Rattle.error.specs.declared.Refusal.{Refusal}
 use Rattle.fields.specs.Le.{leBytes, put}
 use Rattle.fields.proofs.Laws.{length-put, take-put, take-put-inside, length-leBytes}
+use Rattle.fields.proofs.Impossible.{impossible}
 use Rattle.prelude.specs.Built.{preludeBytes}
+use Rattle.prelude.specs.Layout.{preludeLen}
 use Rattle.prelude.proofs.BuiltLaws.{length-prelude}
-use Rattle.muxer.specs.Writer.{outcome, packetBytes, patchRunLength, headerQuestions, packetQuestions, trailerQuestions, afterHeader, afterPacket, afterTrailer, headerCall, packetCall, trailerCall}
+use Rattle.muxer.specs.Writer.{outcome, packetBytes, patchRunLength, headerQuestions, packetQuestions, trailerQuestions, afterHeader}
+use Rattle.muxer.specs.Writer.{afterPacket, afterTrailer, headerCall, packetCall, trailerCall}
 use Rattle.muxer.specs.declared.Settings.{Settings}
 use Rattle.muxer.specs.declared.Writer.{Writer}
 use Rattle.muxer.proofs.Steps.{Open, PacketPassed, TrailerPassed, header-passed, packet-passed, trailer-passed}
@@ -33,14 +36,14 @@ preludeFor s = preludeBytes (s .width) (s .height) (s .fps) 0 (s .rate) (s .chan
 pub outcome-refused : (q : Answer Unit) (w : Writer) (buf : List ℕ) (next : Writer) (after : List ℕ) {r : Refusal}
     → outcome q w buf next after .answer ≡ refused r
     → (outcome q w buf next after .writer ≡ w) × (outcome q w buf next after .buffer ≡ buf)
-outcome-refused (accepted u) w buf next after e = let z : _≡_ {A = ℕ} 0 1 = cc in absurd (omega arith)
+outcome-refused (accepted u) w buf next after e = impossible cc
 outcome-refused (refused r) w buf next after e = (refl, refl)
 
 pub outcome-accepted : (q : Answer Unit) (w : Writer) (buf : List ℕ) (next : Writer) (after : List ℕ)
     → outcome q w buf next after .answer ≡ accepted tt
     → (q ≡ accepted tt) × (outcome q w buf next after .writer ≡ next) × (outcome q w buf next after .buffer ≡ after)
 outcome-accepted (accepted u) w buf next after e = (refl, refl, refl)
-outcome-accepted (refused r) w buf next after e = let z : _≡_ {A = ℕ} 0 1 = cc in absurd (omega arith)
+outcome-accepted (refused r) w buf next after e = impossible cc
 
 outcome-length : (q : Answer Unit) (w : Writer) (buf : List ℕ) (next : Writer) (after : List ℕ)
     → (q ≡ accepted tt → length after ≡ length buf) → length (outcome q w buf next after .buffer) ≡ length buf
@@ -96,20 +99,20 @@ module _ (w : Writer) (buf : List ℕ) where
   header-accepted e =
       let s = w .settings in
       let o = outcome-accepted (headerQuestions w (length buf)) w buf _ _ e in
-      let l : length (preludeFor s) ≡ 316 = length-prelude (s .width) (s .height) (s .fps) 0 (s .rate) (s .channels) in
+      let l : length (preludeFor s) ≡ preludeLen = length-prelude (s .width) (s .height) (s .fps) 0 (s .rate) (s .channels) in
       let p = header-passed w (length buf) (o .0) in
       let h = p .inside in
       record {
         writer = o .1;
         ready = record { begun = refl; going = p .going; prelude = omega arith };
-        file = rw (o .1, o .2) (take-put buf 0 (preludeFor s) 316 (omega arith) (omega arith));
+        file = rw (o .1, o .2) (take-put buf 0 (preludeFor s) preludeLen (omega arith) (omega arith));
       }
 
   pub header-length : length (headerCall w buf .buffer) ≡ length buf
   unfolding headerCall
   header-length =
       let s = w .settings in
-      let l : length (preludeFor s) ≡ 316 = length-prelude (s .width) (s .height) (s .fps) 0 (s .rate) (s .channels) in
+      let l : length (preludeFor s) ≡ preludeLen = length-prelude (s .width) (s .height) (s .fps) 0 (s .rate) (s .channels) in
       outcome-length (headerQuestions w (length buf)) w buf _ _
       (λ e. let h = header-passed w (length buf) e .inside in length-put buf 0 (preludeFor s) (omega arith))
 

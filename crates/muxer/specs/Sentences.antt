@@ -11,7 +11,7 @@ use Rattle.error.specs.Sentences.{GivesBack, RefusedBy}
 use Rattle.fields.specs.Le.{leBytes, put}
 use Rattle.prelude.specs.Built.{preludeBytes}
 use Rattle.prelude.specs.Layout.{preludeLen}
-use Rattle.muxer.specs.Writer.{fresh, Outcome, headerCall, packetCall, trailerCall}
+use Rattle.muxer.specs.Writer.{fresh, frameLimit, Outcome, headerCall, packetCall, trailerCall}
 use Rattle.muxer.specs.declared.Settings.{Settings}
 use Rattle.muxer.specs.declared.Writer.{Writer}
 
@@ -43,8 +43,8 @@ pub record PacketAdded (payload : List ℕ) (stream : ℕ) (l m : Lent) : Type 0
   -- "A packet is tag .., u32 length, payload, no padding"
   pub file : fileIn m ≡ fileIn l ++ (leBytes 4 (streamTag stream) ++ (leBytes 4 (length payload) ++ payload))
   -- "a frame adds 1 to frames, capped at u64"
-  pub frame : stream ≡ 0 → l .writer .frames < 18446744073709551615 → m .writer .frames ≡ l .writer .frames + 1
-  pub full : l .writer .frames ≡ 18446744073709551615 → m .writer .frames ≡ l .writer .frames
+  pub frame : stream ≡ 0 → l .writer .frames < frameLimit → m .writer .frames ≡ l .writer .frames + 1
+  pub full : l .writer .frames ≡ frameLimit → m .writer .frames ≡ l .writer .frames
   pub sound : stream ≡ 1 → m .writer .frames ≡ l .writer .frames
   pub settings : m .writer .settings ≡ l .writer .settings
   pub begun : m .writer .begun ≡ true

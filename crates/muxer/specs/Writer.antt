@@ -5,12 +5,10 @@ use mathlib.Core.Bool.{Bool, true, false, not, cond, _&&_, _||_}
 use mathlib.Core.List.{List, _++_}
 use lib.Dec.{leb, ltb, eqb}
 use lib.ListN.{length}
-use Rattle.chunk.specs.Chunk.{streamTag, advanceTotal, trailerBytes}
+use Rattle.chunk.specs.Chunk.{streamTag, advanceTotal, payloadLimit, trailerBytes}
 use Rattle.duration.specs.Duration.{packedOf, runLength}
 use Rattle.error.specs.Answer.{Answer, accepted, refused, ask}
 use Rattle.error.specs.Refusal.{said}
-use Rattle.error.specs.declared.AmvError.{AmvError}
-use Rattle.error.specs.declared.AmvResult.the-variants.{Ok, Err}
 use Rattle.fields.specs.File.{fileLimit}
 use Rattle.fields.specs.Le.{leBytes, put}
 use Rattle.prelude.specs.Built.{preludeBytes}
@@ -66,9 +64,13 @@ headerCall w buf =
 unfoldable pub packetBytes : ℕ → List ℕ → List ℕ
 packetBytes stream payload = leBytes 4 (streamTag stream) ++ (leBytes 4 (length payload) ++ payload)
 
+-- the most frames that a writer counts: the largest u64
+abbrev pub frameLimit : ℕ
+frameLimit = 18446744073709551615
+
 -- "a frame adds 1 to frames, capped at u64"
 abbrev pub framesAfter : ℕ → ℕ → ℕ
-framesAfter stream frames = cond (eqb stream 0) (min (frames + 1) 18446744073709551615) frames
+framesAfter stream frames = cond (eqb stream 0) (min (frames + 1) frameLimit) frames
 
 -- what a packet and the trailer both ask first
 abbrev pub askOpen : Writer → Answer Unit → Answer Unit
@@ -82,7 +84,7 @@ askOpen w rest =
 unfoldable pub packetQuestions : Writer → ℕ → ℕ → ℕ → Answer Unit
 packetQuestions w size stream room =
     askOpen w
-    (ask (leb size 4294967295) 52 (w .written)
+    (ask (leb size payloadLimit) 52 (w .written)
     (ask (leb stream 1) 53 (w .written)
     (ask (fits (w .written + advanceTotal size) room) 54 (w .written)
     (accepted tt))))
@@ -132,10 +134,3 @@ pub record Meets (o : Outcome) (r : Wrote) (after : List ℕ) : Type 0 where
   pub answer : said (r .result) ≡ o .answer
   pub writer : r .writer ≡ o .writer
   pub buffer : after ≡ o .buffer
-
--- what the two ends of a call give
-abbrev pub acceptedWith : Writer → Wrote
-acceptedWith w = record { result = Ok; writer = w }
-
-abbrev pub refusedWith : AmvError → Writer → Wrote
-refusedWith e w = record { result = Err e; writer = w }

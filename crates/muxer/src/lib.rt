@@ -1,6 +1,5 @@
 // The writer: a state by value over one lent buffer, and the three calls that write a file.
-use chunk::AUDIO_CHUNK_TAG;
-use chunk::VIDEO_CHUNK_TAG;
+use chunk::PAYLOAD_LIMIT;
 use duration::AmvDuration;
 use error::AmvError;
 use error::AmvResult;
@@ -10,15 +9,21 @@ use prelude::prelude::AmvPrelude;
 ghost use mathlib.Core.Path.{_≡_};
 ghost use Prim.Native.Nat.{_+_, _≤_};
 ghost use lib.ListN.{length};
-ghost use Rattle.chunk.specs.Chunk.{streamTag, advanceTotal, trailerBytes};
+ghost use Rattle.chunk.specs.Chunk.{advanceTotal, payloadLimit, trailerBytes};
 ghost use Rattle.error.specs.Answer.{accepted};
 ghost use Rattle.error.specs.Refusal.{said};
 ghost use Rattle.fields.specs.File.{fileLimit};
 ghost use Rattle.fields.specs.Le.{put};
 ghost use Rattle.prelude.specs.Built.{preludeBytes};
 ghost use Rattle.prelude.specs.Layout.{preludeLen};
-ghost use Rattle.muxer.specs.Writer.{fresh, fits, framesAfter, packetBytes, patchRunLength, askOpen, headerQuestions, packetQuestions, trailerQuestions, afterHeader, afterPacket, afterTrailer, headerCall, packetCall, trailerCall, Meets, acceptedWith, refusedWith};
+ghost use Rattle.muxer.specs.Writer.{fresh, fits, framesAfter, packetBytes, patchRunLength, askOpen, headerQuestions, packetQuestions};
+ghost use Rattle.muxer.specs.Writer.{trailerQuestions, afterHeader, afterPacket, afterTrailer, headerCall, packetCall, trailerCall, Meets};
+ghost use Rattle.muxer.specs.Steps.{acceptedWith, refusedWith};
 
+// The most frames that a writer counts: the largest u64.
+const FRAME_LIMIT: u64 = 18446744073709551615;
+
+// What a new file holds.
 pub struct Settings {
     pub width: u32,
     pub height: u32,
@@ -27,6 +32,8 @@ pub struct Settings {
     pub channels: u16,
 }
 
+// The state of writing, which every call returns anew: the settings, what has been written and how far, and the frames so far. The bytes
+// stay in the caller's buffer.
 pub struct Writer {
     pub settings: Settings,
     pub begun: bool,
@@ -57,14 +64,15 @@ fn has_room(room: usize, off: u64, len: u64) -> bool
 
 // A packet's length in the file: a chunk's, from its payload's.
 fn packet_len(size: usize) -> u64
-    requires { ⌜ size ≤ 4294967295 ⌝ }
+    requires { ⌜ size ≤ payloadLimit ⌝ }
     ensures { λ r. ⌜ r ≡ advanceTotal size ⌝ }
 {
     chunk::advance_total(size as u32)
 }
 
+// A payload's length as its header has it.
 fn payload_size(payload: &[u8]) -> u32
-    requires { ⌜ length (now payload) ≤ 4294967295 ⌝ }
+    requires { ⌜ length (now payload) ≤ payloadLimit ⌝ }
     ensures { λ r. ⌜ r ≡ length (now (payload .entry)) ⌝ }
 {
     payload.len() as u32
@@ -75,15 +83,16 @@ fn frames_after(stream: u32, frames: u64) -> u64
     ensures { λ r. ⌜ r ≡ framesAfter stream frames ⌝ }
 {
     if stream == 0 {
-        fields::min(frames, 18446744073709551614) + 1
+        fields::min(frames, FRAME_LIMIT - 1) + 1
     } else {
         frames
     }
 }
 
+// A packet's bytes at an offset: tag, length, payload.
 fn put_packet(buf: &mut [u8], off: usize, payload: &[u8], stream: u32)
     requires { ⌜ off + advanceTotal (length (now payload)) ≤ length (now buf) ⌝ }
-    requires { ⌜ length (now payload) ≤ 4294967295 ⌝ }
+    requires { ⌜ length (now payload) ≤ payloadLimit ⌝ }
     ensures { λ _. ⌜ now (buf .exit) ≡ put (now (buf .entry)) off (packetBytes stream (now (payload .entry))) ⌝ }
 {
     fields::write_u32_le(buf, off, chunk::stream_tag(stream));
@@ -91,6 +100,7 @@ fn put_packet(buf: &mut [u8], off: usize, payload: &[u8], stream: u32)
     fields::copy_in(buf, off + 8, payload);
 }
 
+// The trailer's bytes at an offset.
 fn put_trailer(buf: &mut [u8], off: usize)
     requires { ⌜ off + 8 ≤ length (now buf) ⌝ }
     ensures { λ _. ⌜ now (buf .exit) ≡ put (now (buf .entry)) off trailerBytes ⌝ }
@@ -99,6 +109,7 @@ fn put_trailer(buf: &mut [u8], off: usize)
 }
 
 impl Wrote {
+    // A call that has gone through.
     fn accepted(writer: Writer) -> Wrote
         ensures { λ r. ⌜ r ≡ acceptedWith writer ⌝ }
     {
@@ -106,6 +117,7 @@ impl Wrote {
         Wrote { result, writer }
     }
 
+    // A call that is refused, with the state it was given.
     fn refused(e: AmvError, writer: Writer) -> Wrote
         ensures { λ r. ⌜ r ≡ refusedWith e writer ⌝ }
     {
@@ -115,6 +127,7 @@ impl Wrote {
 }
 
 impl Settings {
+    // The prelude at offset 0, built with run length 0: the trailer patches it.
     fn put_prelude(self, buf: &mut [u8])
         requires { ⌜ preludeLen ≤ length (now buf) ⌝ }
         ensures { λ _. ⌜ now (buf .exit) ≡ put (now (buf .entry)) 0 (preludeBytes (self .width) (self .height) (self .fps) 0 (self .rate) (self .channels)) ⌝ }
@@ -136,6 +149,7 @@ impl Writer {
     // The bytes written once a header is accepted, where packets start.
     pub const START: u64 = AmvPrelude::LEN as u64;
 
+    // A writer that has written nothing. Refuses nothing.
     pub fn new(settings: Settings) -> Writer
         ensures { λ r. ⌜ r ≡ fresh settings ⌝ }
     {
@@ -148,7 +162,7 @@ impl Writer {
         }
     }
 
-    // A writer that has not begun has no prelude to miss.
+    // The questions of a header. A writer that has not begun has no prelude to miss, so 56 needs no test.
     fn ask_header(self, room: usize) -> AmvResult
         ensures { λ r. ⌜ said r ≡ headerQuestions self room ⌝ }
     {
@@ -181,13 +195,14 @@ impl Writer {
         AmvResult::Ok
     }
 
+    // The questions of a packet.
     fn ask_packet(self, size: usize, stream: u32, room: usize) -> AmvResult
         ensures { λ r. ⌜ said r ≡ packetQuestions self size stream room ⌝ }
     {
         if let AmvResult::Err(e) = self.ask_open() {
             return AmvResult::Err(e);
         }
-        if size > 4294967295 {
+        if size > PAYLOAD_LIMIT {
             return AmvResult::Err(AmvError::PayloadTooLong(self.written));
         }
         if stream > 1 {
@@ -200,6 +215,7 @@ impl Writer {
         }
     }
 
+    // The questions of the trailer.
     fn ask_trailer(self, room: usize) -> AmvResult
         ensures { λ r. ⌜ said r ≡ trailerQuestions self room ⌝ }
     {
@@ -213,6 +229,7 @@ impl Writer {
         }
     }
 
+    // The state after a header.
     fn after_header(self) -> Writer
         ensures { λ r. ⌜ r ≡ afterHeader self ⌝ }
     {
@@ -226,8 +243,10 @@ impl Writer {
         }
     }
 
+    // The state after a packet that fits.
     fn after_packet(self, size: usize, stream: u32) -> Writer
         requires { ⌜ self .written + advanceTotal size ≤ fileLimit ⌝ }
+        requires { ⌜ size ≤ payloadLimit ⌝ }
         ensures { λ r. ⌜ r ≡ afterPacket self size stream ⌝ }
     {
         let settings = self.settings;
@@ -240,6 +259,7 @@ impl Writer {
         }
     }
 
+    // The state after the trailer.
     fn after_trailer(self) -> Writer
         requires { ⌜ self .written + 8 ≤ fileLimit ⌝ }
         ensures { λ r. ⌜ r ≡ afterTrailer self ⌝ }
@@ -271,6 +291,8 @@ impl Writer {
         fields::write_u32_le(buf, 84, run_length.to_packed());
     }
 
+    // Writes the prelude at the buffer's start. Refused in this order, with state and buffer as they were: begun already 50, ended 55, no room
+    // 54. The place is the bytes written, as of every refusal of a writer.
     pub fn write_header(self, buf: &mut [u8]) -> Wrote
         ensures { λ r. ⌜ Meets (headerCall self (now (buf .entry))) r (now (buf .exit)) ⌝ }
     {
@@ -284,6 +306,8 @@ impl Writer {
         }
     }
 
+    // Writes a packet after what is written. Refused in this order, with state and buffer as they were: not begun 51, ended 55, no prelude
+    // written 56, a payload past the largest u32 52, a stream that is not 0 or 1 53, no room in the buffer or below the file limit 54.
     pub fn write_packet(self, buf: &mut [u8], payload: &[u8], stream: u32) -> Wrote
         ensures { λ r. ⌜ Meets (packetCall self (now (payload .entry)) stream (now (buf .entry))) r (now (buf .exit)) ⌝ }
     {
@@ -296,6 +320,8 @@ impl Writer {
         }
     }
 
+    // Writes the trailer, patches the run length into the prelude and ends the file. Refused in this order, with state and buffer as they were:
+    // not begun 51, ended already 55, no prelude written 56, no room in the buffer or below the file limit 54.
     pub fn write_trailer(self, buf: &mut [u8]) -> Wrote
         ensures { λ r. ⌜ Meets (trailerCall self (now (buf .entry))) r (now (buf .exit)) ⌝ }
     {

@@ -7,6 +7,7 @@ use lib.Dec.{leb, eqb}
 use lib.ListN.{length}
 use Rattle.error.specs.Answer.{Answer, accepted, refused, ask}
 use Rattle.error.specs.Refusal.{refusalOf}
+use Rattle.fields.specs.Capped.{u32Max}
 use Rattle.fields.specs.Le.{le}
 use Rattle.parse.specs.declared.wave_format.AmvWaveFormat.{AmvWaveFormat}
 use Rattle.parse.specs.declared.wave_format.AmvWaveFormatResult.{AmvWaveFormatResult}
@@ -39,7 +40,7 @@ saidWaveFormat (Err e) = refused (refusalOf e)
 
 -- 01: "twice the rate capped at 4,294,967,295"
 abbrev pub averageOf : ℕ → ℕ
-averageOf rate = min (rate * 2) 4294967295
+averageOf rate = min (rate * 2) u32Max
 
 -- the original's `AmvWaveFormat::new`: one channel of 16-bit PCM at a rate
 abbrev pub newWaveFormat : ℕ → AmvWaveFormat

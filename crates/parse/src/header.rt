@@ -9,6 +9,7 @@ ghost use Rattle.error.specs.Refusal.{said};
 ghost use Rattle.duration.specs.Duration.{durationOf, totalSeconds};
 ghost use Rattle.parse.specs.Header.{newHeader, headerOf, saidHeader, headerSentinels};
 
+// The fields of the body that a reader needs; the rest of it is zero, which the strict parse asks.
 pub struct AmvHeader {
     pub micros_per_frame: u32,
     pub width: u32,
@@ -19,6 +20,7 @@ pub struct AmvHeader {
     pub duration_packed: u32,
 }
 
+// What `AmvHeader::parse` answers.
 pub enum AmvHeaderResult {
     Ok(AmvHeader),
     Err(AmvError),
@@ -28,7 +30,7 @@ impl AmvHeader {
     // The body's length.
     pub const LEN: usize = 56;
 
-    // A header of a picture's size, with the flag set and nothing else.
+    // A header of a picture's size, with the flag set and nothing else. Refuses nothing.
     pub fn new(width: u32, height: u32) -> AmvHeader
         ensures { λ r. ⌜ r ≡ newHeader width height ⌝ }
     {
@@ -43,6 +45,7 @@ impl AmvHeader {
         }
     }
 
+    // The fields of a body; fewer than 56 bytes are refused with 28. What they hold is asked by `validate_sentinels`.
     pub fn parse(body: &[u8]) -> AmvHeaderResult
         ensures { λ r. ⌜ saidHeader r ≡ headerOf (now (body .entry)) ⌝ }
     {
@@ -61,12 +64,14 @@ impl AmvHeader {
         AmvHeaderResult::Ok(header)
     }
 
+    // The run length. Refuses nothing.
     pub fn duration(self) -> AmvDuration
         ensures { λ r. ⌜ r ≡ durationOf (self .«duration_packed») ⌝ }
     {
         AmvDuration::from_packed(self.duration_packed)
     }
 
+    // The run length in microseconds, the unit of the frame interval. Refuses nothing.
     pub fn duration_micros(self) -> i64
         ensures { λ r. ⌜ r ≡ pos (1000000 * totalSeconds (durationOf (self .«duration_packed»))) ⌝ }
     {
@@ -74,7 +79,8 @@ impl AmvHeader {
         micros as i64
     }
 
-    // What a device writes: the quotient truncated, the flag 1, the reserved number 0.
+    // Whether it is what a device writes. Refused in this order: fps 0 with 14, another quotient than 1,000,000/fps with 15, a flag that is
+    // not 1 with 16, a reserved number that is not 0 with 17.
     pub fn validate_sentinels(self) -> AmvResult
         ensures { λ r. ⌜ said r ≡ headerSentinels self ⌝ }
     {

@@ -6,6 +6,7 @@ ghost use Rattle.error.specs.Refusal.{said};
 ghost use Rattle.fields.specs.Capped.{quotient};
 ghost use Rattle.parse.specs.WaveFormat.{newWaveFormat, waveFormatOf, saidWaveFormat, cbSizeOf, waveFormatSentinels};
 
+// Microsoft's fields, by its names.
 pub struct AmvWaveFormat {
     pub format_tag: u16,
     pub channels: u16,
@@ -16,6 +17,7 @@ pub struct AmvWaveFormat {
     pub cb_size: u16,
 }
 
+// What `AmvWaveFormat::parse` answers.
 pub enum AmvWaveFormatResult {
     Ok(AmvWaveFormat),
     Err(AmvError),
@@ -39,7 +41,7 @@ impl AmvWaveFormat {
     // The shortest body that is read.
     pub const MIN_LEN: usize = 18;
 
-    // What a device writes at a sample rate.
+    // What a device writes at a sample rate: one channel of 16-bit PCM. Refuses nothing.
     pub fn new(samples_per_sec: u32) -> AmvWaveFormat
         ensures { λ r. ⌜ r ≡ newWaveFormat «samples_per_sec» ⌝ }
     {
@@ -54,6 +56,7 @@ impl AmvWaveFormat {
         }
     }
 
+    // The fields of a body; fewer than 18 bytes are refused with 27. What they hold is asked by `validate_sentinels`.
     pub fn parse(body: &[u8]) -> AmvWaveFormatResult
         ensures { λ r. ⌜ saidWaveFormat r ≡ waveFormatOf (now (body .entry)) ⌝ }
     {
@@ -72,14 +75,15 @@ impl AmvWaveFormat {
         AmvWaveFormatResult::Ok(format)
     }
 
-    // The samples of one frame interval, 0 for fps 0.
+    // The samples of one frame interval, 0 for fps 0. Refuses nothing.
     pub fn frame_interval_samples(self, fps: u32) -> u32
         ensures { λ r. ⌜ r ≡ quotient (self .«samples_per_sec») fps ⌝ }
     {
         fields::quotient(self.samples_per_sec, fps)
     }
 
-    // What a device writes, at any sample rate: one channel of 16-bit PCM.
+    // Whether it is what a device writes, at any sample rate. Refused in this order: format 19, channels 20, average 21, align 22, bits 23,
+    // cbSize 24.
     pub fn validate_sentinels(self) -> AmvResult
         ensures { λ r. ⌜ said r ≡ waveFormatSentinels self ⌝ }
     {

@@ -8,9 +8,10 @@ use lib.ListN.{length, length-take, length-drop}
 use Rattle.error.specs.Answer.{accepted}
 use Rattle.parse.specs.Header.{headerOf, headerFields}
 use Rattle.parse.specs.WaveFormat.{waveFormatOf, waveFormatFields}
+use Rattle.prelude.specs.Layout.{preludeLen}
 use Rattle.prelude.specs.Prelude.{between}
 
-module _ (file : List ℕ) (h : 316 ≤ length file) where
+module _ (file : List ℕ) (h : preludeLen ≤ length file) where
   pub header-body : headerOf (between 32 88 file) ≡ accepted (headerFields (between 32 88 file))
   unfolding headerOf
   header-body =

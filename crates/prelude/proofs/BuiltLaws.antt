@@ -1,4 +1,4 @@
--- A built prelude, read. Assumes nothing.
+-- A built prelude, read: length, layout and zeros are computed, and each setting is read back from the bytes that hold it. Assumes nothing.
 use mathlib.Core.Path.{_≡_, refl, sym, ap, _∙_}
 use mathlib.Core.Bool.{true}
 use mathlib.Core.List.{List, _++_}
@@ -15,14 +15,14 @@ use Rattle.fields.proofs.Laws.{le-leBytes}
 use Rattle.fields.specs.File.{withinLimit}
 use Rattle.parse.specs.Header.{headerFields, headerSentinels}
 use Rattle.parse.specs.WaveFormat.{averageOf, cbSizeOf, waveFormatFields, waveFormatSentinels}
-use Rattle.prelude.specs.Layout.{layout, askWord, askBody, askItems}
+use Rattle.prelude.specs.Layout.{preludeLen, layout, askWord, askBody, askItems}
 use Rattle.prelude.specs.Prelude.{preludeFields, parseOf, zeros, zeroRanges, validatedOf, strictOf}
 use Rattle.prelude.specs.Built.{preludeBytes}
 use Rattle.prelude.specs.Sentences.{settings, Held}
 use Rattle.prelude.proofs.Local.{strict-local}
 
 module _ (width height fps duration rate channels : ℕ) where
-  pub length-prelude : length (preludeBytes width height fps duration rate channels) ≡ 316
+  pub length-prelude : length (preludeBytes width height fps duration rate channels) ≡ preludeLen
   unfolding preludeBytes leBytes
   length-prelude = refl
 
@@ -79,7 +79,7 @@ module _ {width height fps duration rate channels : ℕ} (h : Held width height 
               «bits_per_sample» = 16;
               «cb_size» = 0;
             };
-        «movi_payload_start» = 316;
+        «movi_payload_start» = preludeLen;
       }
 
   -- parsing a built prelude gives back the settings that it was built from, whatever they are
@@ -119,5 +119,5 @@ pub strict-begun : {width height fps duration rate : ℕ} (rest : List ℕ) → 
     → strictOf (preludeBytes width height fps duration rate 1 ++ rest) ≡ accepted (settings width height fps duration rate 1)
 strict-begun {width} {height} {fps} {duration} {rate} rest h p l =
     sym (strict-local (preludeBytes width height fps duration rate 1 ++ rest) l)
-    ∙ ap strictOf (take-at (preludeBytes width height fps duration rate 1) rest 316 (length-prelude width height fps duration rate 1))
+    ∙ ap strictOf (take-at (preludeBytes width height fps duration rate 1) rest preludeLen (length-prelude width height fps duration rate 1))
     ∙ strict-built h p

@@ -9,7 +9,7 @@ use lib.ListN.{length, drop, getD}
 use lib.Seq.{drop-cons}
 use Rattle.error.specs.Answer.{accepted, numbered, andThen}
 use Rattle.error.proofs.Answers.{then-passed, ask-passed}
-use Rattle.prelude.specs.Layout.{layout, past, askWord, askItem, askItems, movi}
+use Rattle.prelude.specs.Layout.{preludeLen, layout, past, askWord, askItem, askItems, movi}
 use Rattle.fields.specs.File.{withinLimit}
 use Rattle.prelude.specs.Prelude.{preludeFields, parseOf}
 use Rattle.prelude.specs.declared.layout.LayoutItem.{LayoutItem}
@@ -26,13 +26,14 @@ items-drop file zero items e = e
 items-drop file (suc n) [] e = e
 items-drop file (suc n) (x ∷ items) e = items-drop file n items (then-passed (askItem file x) (λ _. askItems file items) e .1)
 
-pub layout-length : (file : List ℕ) → askItems file layout ≡ accepted tt → 316 ≤ length file
+pub layout-length : (file : List ℕ) → askItems file layout ≡ accepted tt → preludeLen ≤ length file
 unfolding layout askItems askWord
 layout-length file e =
-    let last : askWord file 312 movi (numbered 12 312) ≡ accepted tt = then-passed (askWord file 312 movi (numbered 12 312)) (λ _. accepted tt) (items-drop file 21 layout e) .0 in
-    leb-true _ _ (ask-passed (leb 316 (length file)) 11 312 _ last .0)
+    let last : askWord file 312 movi (numbered 12 312) ≡ accepted tt =
+    then-passed (askWord file 312 movi (numbered 12 312)) (λ _. accepted tt) (items-drop file 21 layout e) .0 in
+    leb-true _ _ (ask-passed (leb preludeLen (length file)) 11 312 _ last .0)
 
-pub parsed-length : (file : List ℕ) {p : AmvPrelude} → parseOf file ≡ accepted p → 316 ≤ length file
+pub parsed-length : (file : List ℕ) {p : AmvPrelude} → parseOf file ≡ accepted p → preludeLen ≤ length file
 unfolding parseOf
 parsed-length file e =
     let asked = ask-passed (withinLimit file) 10 0 _ e .1 in

@@ -1,8 +1,8 @@
--- The prelude's questions look at the first 316 bytes alone. Assumes nothing.
+-- The prelude's questions look at the prelude's bytes alone: every item and every stretch of zeros ends within them. Assumes nothing.
 use mathlib.Core.Path.{_≡_, refl, sym, _∙_}
 use mathlib.Core.Bool.{true}
 use mathlib.Core.List.{List, [], _∷_}
-use Prim.Native.Nat.{ℕ, zero, suc, _+_, _-_, _≤_}
+use Prim.Native.Nat.{ℕ, zero, suc, _+_, _≤_}
 use native.Mathlib.Decide.{decLe}
 use native.Mathlib.Nat.{lt-of-not-le}
 use native.Mathlib.Omega.{arith}
@@ -14,9 +14,9 @@ use Rattle.error.specs.Answer.{Answer, numbered, andThen}
 use Rattle.error.specs.declared.Refusal.{Refusal}
 use Rattle.fields.proofs.Laws.{le-take}
 use Rattle.fields.specs.File.{withinLimit, fileLimit}
-use Rattle.prelude.specs.Layout.{layout, askWord, askBody, askItem, askItems}
+use Rattle.prelude.specs.Layout.{preludeLen, layout, askWord, askBody, askItem, askItems}
 use Rattle.prelude.specs.Prelude.{preludeFields, parseOf, zeros, zeroRanges, validatedOf, strictOf}
-use Rattle.prelude.specs.Stores.{Within}
+use Rattle.prelude.specs.Steps.{Within}
 use Rattle.prelude.specs.declared.layout.LayoutItem.{LayoutItem}
 use Rattle.prelude.specs.declared.layout.LayoutItem.the-variants.{Tag, Size, Body}
 use Rattle.prelude.specs.declared.prelude.AmvPrelude.{AmvPrelude}
@@ -29,48 +29,49 @@ take-drop-take (suc k) n m [] h = rw (take-nil m)
 take-drop-take (suc k) n zero (x ∷ xs) h = absurd (omega arith)
 take-drop-take (suc k) n (suc m) (x ∷ xs) h = take-drop-take k n m xs (omega arith)
 
--- whether n bytes are there, with n at most 316
-reach-local : (file : List ℕ) (n : ℕ) → n ≤ 316 → leb n (length (take 316 file)) ≡ leb n (length file)
+-- whether n bytes are there, with n at most the length of a prelude
+reach-local : (file : List ℕ) (n : ℕ) → n ≤ preludeLen → leb n (length (take preludeLen file)) ≡ leb n (length file)
 reach-local file n h =
     elim (decLe n (length file)) [
-      | yes l ↦ le-leb n (length (take 316 file)) (simp length-take (omega arith)) ∙ sym (le-leb n (length file) l)
-      | no l ↦ lt-leb n (length (take 316 file)) (simp length-take (omega (arith, lt-of-not-le l))) ∙ sym (lt-leb n (length file) (lt-of-not-le l))
+      | yes l ↦ le-leb n (length (take preludeLen file)) (simp length-take (omega arith)) ∙ sym (le-leb n (length file) l)
+      | no l ↦ lt-leb n (length (take preludeLen file)) (simp length-take (omega (arith, lt-of-not-le l))) ∙ sym (lt-leb n (length file) (lt-of-not-le l))
     ]
 
-word-local : (file : List ℕ) (place value : ℕ) (wrong : Refusal) → place + 4 ≤ 316 → askWord (take 316 file) place value wrong ≡ askWord file place value wrong
+word-local : (file : List ℕ) (place value : ℕ) (wrong : Refusal) → place + 4 ≤ preludeLen
+    → askWord (take preludeLen file) place value wrong ≡ askWord file place value wrong
 unfolding askWord
-word-local file place value wrong h = rw (reach-local file (place + 4) h, le-take 4 316 file place h)
+word-local file place value wrong h = rw (reach-local file (place + 4) h, le-take 4 preludeLen file place h)
 
-item-local : (file : List ℕ) (item : LayoutItem) → Within item → askItem (take 316 file) item ≡ askItem file item
+item-local : (file : List ℕ) (item : LayoutItem) → Within item → askItem (take preludeLen file) item ≡ askItem file item
 item-local file (Tag place value) h = word-local file place value (numbered 12 place) h
 item-local file (Size place value) h = word-local file place value (numbered 13 place) h
 item-local file (Body place len) h = unfold askBody in rw (reach-local file (place + len) h)
 
-items-local : (file : List ℕ) (items : List LayoutItem) → AllWithin items → askItems (take 316 file) items ≡ askItems file items
+items-local : (file : List ℕ) (items : List LayoutItem) → AllWithin items → askItems (take preludeLen file) items ≡ askItems file items
 unfolding askItems
 items-local file [] t = refl
 items-local file (item ∷ items) t = rw (item-local file item (t .0), items-local file items (t .1))
 
-fields-local : (file : List ℕ) → preludeFields (take 316 file) ≡ preludeFields file
+fields-local : (file : List ℕ) → preludeFields (take preludeLen file) ≡ preludeFields file
 unfolding preludeFields
-fields-local file = rw (take-drop-take 32 56 316 file (omega arith), take-drop-take 284 20 316 file (omega arith))
+fields-local file = rw (take-drop-take 32 56 preludeLen file (omega arith), take-drop-take 284 20 preludeLen file (omega arith))
 
-limit-local : (file : List ℕ) → withinLimit file ≡ true → withinLimit (take 316 file) ≡ true
+limit-local : (file : List ℕ) → withinLimit file ≡ true → withinLimit (take preludeLen file) ≡ true
 limit-local file e =
     let l : length file ≤ fileLimit = leb-true _ _ e in
-    le-leb (length (take 316 file)) fileLimit (simp length-take (omega arith))
+    le-leb (length (take preludeLen file)) fileLimit (simp length-take (omega arith))
 
-pub parse-local : (file : List ℕ) → withinLimit file ≡ true → parseOf (take 316 file) ≡ parseOf file
+pub parse-local : (file : List ℕ) → withinLimit file ≡ true → parseOf (take preludeLen file) ≡ parseOf file
 unfolding parseOf
 parse-local file e = rw (e, limit-local file e, items-local file layout within-all, fields-local file)
 
-zeros-local : (file : List ℕ) (place n : ℕ) → place + n ≤ 316 → zeros (take 316 file) place n ≡ zeros file place n
+zeros-local : (file : List ℕ) (place n : ℕ) → place + n ≤ preludeLen → zeros (take preludeLen file) place n ≡ zeros file place n
 unfolding zeros
 zeros-local file place zero h = refl
 zeros-local file place (suc n) h =
-    rw (getD-take 316 file place 0 (omega arith), zeros-local file (suc place) n (omega arith))
+    rw (getD-take preludeLen file place 0 (omega arith), zeros-local file (suc place) n (omega arith))
 
-ranges-local : (file : List ℕ) → zeroRanges (take 316 file) ≡ zeroRanges file
+ranges-local : (file : List ℕ) → zeroRanges (take preludeLen file) ≡ zeroRanges file
 unfolding zeroRanges
 ranges-local file =
     rw (
@@ -80,13 +81,13 @@ ranges-local file =
       zeros-local file 228 48 (omega arith),
     )
 
-validated-local : (p : AmvPrelude) (file : List ℕ) → validatedOf p (take 316 file) ≡ validatedOf p file
+validated-local : (p : AmvPrelude) (file : List ℕ) → validatedOf p (take preludeLen file) ≡ validatedOf p file
 unfolding validatedOf
 validated-local p file = rw (ranges-local file)
 
-pub strict-local : (file : List ℕ) → withinLimit file ≡ true → strictOf (take 316 file) ≡ strictOf file
+pub strict-local : (file : List ℕ) → withinLimit file ≡ true → strictOf (take preludeLen file) ≡ strictOf file
 unfolding strictOf
 strict-local file e = rw (parse-local file e) (go (parseOf file))
   where
-    go : (x : Answer AmvPrelude) → andThen x (λ p. validatedOf p (take 316 file)) ≡ andThen x (λ p. validatedOf p file)
+    go : (x : Answer AmvPrelude) → andThen x (λ p. validatedOf p (take preludeLen file)) ≡ andThen x (λ p. validatedOf p file)
     go x = simp (validated-local)

@@ -1,4 +1,4 @@
--- The layout written item by item. Assumes nothing.
+-- The layout written item by item, each item within the prelude. Assumes nothing.
 use mathlib.Core.Path.{_≡_}
 use mathlib.Core.List.{List, [], _∷_}
 use Prim.Native.Nat.{ℕ, zero, suc, _+_, _≤_, _<_}
@@ -8,7 +8,7 @@ use lib.Dec.{lit≤}
 use lib.ListN.{length, drop, getD}
 use lib.Seq.{drop-cons}
 use Rattle.prelude.specs.Layout.{layout, past}
-use Rattle.prelude.specs.Stores.{Within, writeItem, writeItems}
+use Rattle.prelude.specs.Steps.{Within, writeItem, writeItems}
 use Rattle.prelude.specs.declared.layout.LayoutItem.{LayoutItem}
 
 abbrev pub AllWithin : List LayoutItem → Type 0

@@ -1,4 +1,4 @@
--- The prelude's tags are those. Assumes nothing.
+-- The prelude's tags spell these characters: their bytes are computed. Assumes nothing.
 use mathlib.Core.Path.{refl}
 use Rattle.fields.specs.Le.{leBytes}
 use Rattle.prelude.specs.Tags.{Tags}

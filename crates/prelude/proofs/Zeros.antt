@@ -1,4 +1,4 @@
--- A stretch of zeros, byte by byte. Assumes nothing.
+-- A stretch of zeros, byte by byte: the question of one byte, then those of the rest. Assumes nothing.
 use mathlib.Core.Path.{_≡_}
 use mathlib.Core.List.{List}
 use Prim.Native.Nat.{ℕ, suc, _+_, _-_, _<_}

@@ -1,6 +1,6 @@
 pub mod Layout
 pub mod Prelude
 pub mod Built
-pub mod Stores
+pub mod Steps
 pub mod Tags
 pub mod Sentences

@@ -58,7 +58,6 @@ pub record Held (width height fps duration rate channels : ℕ) : Type 0 where
 pub record PreludeSentences : Type 0 where
   pub numbers : (file : List ℕ) → RefusedBy parseNumbers (parseOf file)
   pub strict-numbers : (file : List ℕ) → RefusedBy strictNumbers (strictOf file)
-  -- "`parse_strict` goes on": what it accepts, the plain parse accepts with the same fields
   -- "`build_prelude_bytes` gives 316 (0x13C) bytes": read again, they give what they were built from; with fps above 0 and one channel they
   -- pass the strict parse
   pub long : (width height fps duration rate channels : ℕ) → length (preludeBytes width height fps duration rate channels) ≡ preludeLen
@@ -66,4 +65,5 @@ pub record PreludeSentences : Type 0 where
       → parseOf (preludeBytes width height fps duration rate channels) ≡ accepted (settings width height fps duration rate channels)
   pub passes : (width height fps duration rate : ℕ) → Held width height fps duration rate 1 → 0 < fps
       → strictOf (preludeBytes width height fps duration rate 1) ≡ accepted (settings width height fps duration rate 1)
+  -- "`parse_strict` goes on": what it accepts, the plain parse accepts with the same fields
   pub strict-is-more : (file : List ℕ) (p : AmvPrelude) → strictOf file ≡ accepted p → parseOf file ≡ accepted p

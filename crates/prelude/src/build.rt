@@ -3,10 +3,9 @@ use crate::layout::LayoutItem;
 use crate::prelude::AmvPrelude;
 ghost use mathlib.Core.Path.{_≡_};
 ghost use lib.ListN.{length};
-ghost use Rattle.fields.specs.Le.{putLe};
 ghost use Rattle.prelude.specs.Layout.{preludeLen, layout};
 ghost use Rattle.prelude.specs.Built.{builtOf};
-ghost use Rattle.prelude.specs.Stores.{Within, writeItem, writeItems, headerStores, waveFormatStores};
+ghost use Rattle.prelude.specs.Steps.{Within, writeItem, writeItems, headerStores, waveFormatStores};
 
 // The bytes together with the settings that they hold.
 pub struct BuiltPrelude {
@@ -31,6 +30,7 @@ fn write_item(bytes: &mut [u8], item: LayoutItem)
     }
 }
 
+// Every tag and size of the layout.
 fn write_layout(bytes: &mut [u8])
     requires { ⌜ length (now bytes) ≡ preludeLen ⌝ }
     ensures { λ _. ⌜ now (bytes .exit) ≡ writeItems (now (bytes .entry)) layout ⌝ }
@@ -42,6 +42,7 @@ fn write_layout(bytes: &mut [u8])
     }
 }
 
+// The fields of `amvh` that are not zero.
 fn write_header_body(bytes: &mut [u8], width: u32, height: u32, fps: u32, duration_packed: u32)
     requires { ⌜ length (now bytes) ≡ preludeLen ⌝ }
     ensures { λ _. ⌜ now (bytes .exit) ≡ headerStores (now (bytes .entry)) width height fps «duration_packed» ⌝ }
@@ -54,6 +55,7 @@ fn write_header_body(bytes: &mut [u8], width: u32, height: u32, fps: u32, durati
     fields::write_u32_le(bytes, 84, duration_packed);
 }
 
+// The fields of the sound format that are not zero.
 fn write_wave_format(bytes: &mut [u8], rate: u32, channels: u16)
     requires { ⌜ length (now bytes) ≡ preludeLen ⌝ }
     ensures { λ _. ⌜ now (bytes .exit) ≡ waveFormatStores (now (bytes .entry)) rate channels ⌝ }
@@ -66,6 +68,8 @@ fn write_wave_format(bytes: &mut [u8], rate: u32, channels: u16)
     fields::write_u16_le(bytes, 298, 16);
 }
 
+// The prelude of a new file with these settings, the first bytes of what the writer writes. Refuses nothing: any settings are built, and
+// those with fps above 0 and one channel pass `parse_strict`.
 pub fn build_prelude_bytes(
     width: u32,
     height: u32,

@@ -38,9 +38,10 @@ pub enum LayoutItem {
 }
 
 impl LayoutItem {
+    // The number of items.
     pub const COUNT: usize = 22;
 
-    // The item of a number. Past the last stands an empty body, at the first chunk.
+    // The item of a number; reader and builder go through the same list. Refuses nothing: past the last stands an empty body, at the first chunk.
     pub fn at(i: usize) -> LayoutItem
         ensures { λ r. ⌜ r ≡ getD layout i past ⌝ }
     {

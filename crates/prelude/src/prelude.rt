@@ -24,12 +24,14 @@ const WAVE_FORMAT_START: usize = 284;
 
 const WAVE_FORMAT_END: usize = WAVE_FORMAT_START + AmvWaveFormat::LEN;
 
+// What a prelude says: the two bodies, and where the chunks start.
 pub struct AmvPrelude {
     pub header: AmvHeader,
     pub audio_format: AmvWaveFormat,
     pub movi_payload_start: u64,
 }
 
+// What the two parses answer.
 pub enum AmvPreludeResult {
     Ok(AmvPrelude),
     Err(AmvError),
@@ -63,6 +65,7 @@ fn require_word(file: &[u8], place: usize, expected: u32, wrong: AmvError) -> Am
     }
 }
 
+// A body is there as a whole.
 fn require_body(file: &[u8], place: usize, len: usize) -> AmvResult
     ensures { λ r. ⌜ said r ≡ askBody (now (file .entry)) place len ⌝ }
 {
@@ -73,6 +76,7 @@ fn require_body(file: &[u8], place: usize, len: usize) -> AmvResult
     }
 }
 
+// The question of one item.
 fn require_item(file: &[u8], item: LayoutItem) -> AmvResult
     ensures { λ r. ⌜ said r ≡ askItem (now (file .entry)) item ⌝ }
 {
@@ -148,6 +152,8 @@ impl AmvPrelude {
     // The prelude's length.
     pub const LEN: usize = 316;
 
+    // The prelude of a file, for every reader. A file past the limit is refused with 10; then item by item in offset order 11 for one that
+    // the file cuts off, 12 for another tag, 13 for another size, each at the item's start.
     pub fn parse(file: &[u8]) -> AmvPreludeResult
         ensures { λ r. ⌜ saidPrelude r ≡ parseOf (now (file .entry)) ⌝ }
     {
@@ -180,6 +186,8 @@ impl AmvPrelude {
         })
     }
 
+    // The same, and whether it is what a device writes: after 10 to 13 the header's 14 to 17, then 18 at the first byte that is not zero, then
+    // the wave format's 19 to 24.
     pub fn parse_strict(file: &[u8]) -> AmvPreludeResult
         ensures { λ r. ⌜ saidPrelude r ≡ strictOf (now (file .entry)) ⌝ }
     {

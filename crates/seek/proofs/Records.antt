@@ -1,6 +1,7 @@
--- The records of a table, one after another. Assumes nothing.
+-- The records of a table, one after another: what a turn of a loop takes off the bytes that are left, and that only the last record counts past
+-- the end. Assumes nothing.
 use mathlib.Core.Path.{_≡_, refl, sym, ap, _∙_}
-use mathlib.Core.Bool.{Bool, true, false, _&&_, _||_, and-false, and-true}
+use mathlib.Core.Bool.{Bool, true, false, _||_, and-false, and-true}
 use mathlib.Core.List.{List, [], _∷_}
 use mathlib.Core.Option.{some}
 use Prim.Native.Nat.{ℕ, zero, suc, _+_, _-_, _*_, _/_, _≤_, _<_}
@@ -16,9 +17,10 @@ use Rattle.chunk.specs.Chunk.{videoTag, audioTag}
 use Rattle.error.specs.Answer.{refused, numbered}
 use Rattle.demuxer.specs.Position.{countLimit}
 use Rattle.demuxer.specs.declared.position.Position.{Position}
-use Rattle.chunk_index.specs.Entry.{entryAt, entriesFrom, entriesOf, Small}
+use Rattle.chunk_index.specs.Entry.{entryLen, entryAt, entriesFrom, entriesOf, Small}
 use Rattle.chunk_index.specs.declared.entry.ChunkIndexEntry.{ChunkIndexEntry}
-use Rattle.seek.specs.Seek.{goodEntry, goodEntries, stampOf, least, reaches, find, beyond, pastLast}
+use Rattle.seek.specs.Seek.{goodEntry, goodEntries, stampOf, reaches, find, beyond, pastLast}
+use Rattle.seek.specs.Steps.{least}
 
 abbrev pub knownTag : ChunkIndexEntry → Bool
 knownTag e = eqb (e .tag) videoTag || eqb (e .tag) audioTag
@@ -42,53 +44,55 @@ entry-small table at b =
 
 module _ (table : List ℕ) (at left : ℕ) where
   -- the records of the bytes that are left, from an offset on
-  pub entries-on : 24 ≤ left → entriesFrom (left / 24) table at ≡ entryAt table at ∷ entriesFrom ((left - 24) / 24) table (at + 24)
+  pub entries-on : entryLen ≤ left
+      → entriesFrom (left / entryLen) table at ≡ entryAt table at ∷ entriesFrom ((left - entryLen) / entryLen) table (at + entryLen)
   unfolding entriesFrom
   entries-on h =
-      let k : left / 24 ≡ suc ((left - 24) / 24) = omega arith in
+      let k : left / entryLen ≡ suc ((left - entryLen) / entryLen) = omega arith in
       rw k
 
-  pub entries-off : left < 24 → entriesFrom (left / 24) table at ≡ []
+  pub entries-off : left < entryLen → entriesFrom (left / entryLen) table at ≡ []
   unfolding entriesFrom
   entries-off h =
-      let k : left / 24 ≡ 0 = omega arith in
+      let k : left / entryLen ≡ 0 = omega arith in
       rw k
 
-  module _ (h : 24 ≤ left) {e : ChunkIndexEntry} (read : e ≡ entryAt table at) where
+  module _ (h : entryLen ≤ left) {e : ChunkIndexEntry} (read : e ≡ entryAt table at) where
     pub good-on : goodEntry e ≡ true
-        → goodEntries at (entriesFrom (left / 24) table at) ≡ goodEntries (at + 24) (entriesFrom ((left - 24) / 24) table (at + 24))
+        → goodEntries at (entriesFrom (left / entryLen) table at)
+        ≡ goodEntries (at + entryLen) (entriesFrom ((left - entryLen) / entryLen) table (at + entryLen))
     unfolding goodEntries
     good-on g = rw (entries-on h, ap goodEntry (sym read) ∙ g)
 
-    pub good-no : goodEntry e ≡ false → goodEntries at (entriesFrom (left / 24) table at) ≡ refused (numbered 43 at)
+    pub good-no : goodEntry e ≡ false → goodEntries at (entriesFrom (left / entryLen) table at) ≡ refused (numbered 43 at)
     unfolding goodEntries
     good-no g = rw (entries-on h, ap goodEntry (sym read) ∙ g)
 
     pub find-on : (stream : ℕ) (z : ℤ) → reaches stream z e ≡ false
-        → find stream z (entriesFrom (left / 24) table at) ≡ find stream z (entriesFrom ((left - 24) / 24) table (at + 24))
+        → find stream z (entriesFrom (left / entryLen) table at) ≡ find stream z (entriesFrom ((left - entryLen) / entryLen) table (at + entryLen))
     unfolding find
     find-on stream z g = rw (entries-on h, ap (reaches stream z) (sym read) ∙ g)
 
-    pub find-here : (stream : ℕ) (z : ℤ) → reaches stream z e ≡ true → find stream z (entriesFrom (left / 24) table at) ≡ some (e .position)
+    pub find-here : (stream : ℕ) (z : ℤ) → reaches stream z e ≡ true → find stream z (entriesFrom (left / entryLen) table at) ≡ some (e .position)
     unfolding find
     find-here stream z g = rw (entries-on h, ap (reaches stream z) (sym read) ∙ g, read)
 
 -- past the last of some records: only that one counts
-pub past-last : (n : ℕ) (p : Position) (table : List ℕ) (at : ℕ) → pastLast p (entriesFrom (suc n) table at) ≡ beyond (entryAt table (at + n * 24))
+pub past-last : (n : ℕ) (p : Position) (table : List ℕ) (at : ℕ) → pastLast p (entriesFrom (suc n) table at) ≡ beyond (entryAt table (at + n * entryLen))
 unfolding pastLast entriesFrom
 past-last zero p table at =
-    let k : at + 0 * 24 ≡ at = omega arith in
+    let k : at + 0 * entryLen ≡ at = omega arith in
     rw k
 past-last (suc n) p table at =
-    let k : at + suc n * 24 ≡ at + 24 + n * 24 = omega arith in
-    rw k (past-last n (beyond (entryAt table at)) table (at + 24))
+    let k : at + suc n * entryLen ≡ at + entryLen + n * entryLen = omega arith in
+    rw k (past-last n (beyond (entryAt table at)) table (at + entryLen))
 
-pub past-records : (p : Position) (table : List ℕ) → (length table / 24 ≡ 0 → ⊥)
-    → pastLast p (entriesOf table) ≡ beyond (entryAt table ((length table / 24 - 1) * 24))
+pub past-records : (p : Position) (table : List ℕ) → (length table / entryLen ≡ 0 → ⊥)
+    → pastLast p (entriesOf table) ≡ beyond (entryAt table ((length table / entryLen - 1) * entryLen))
 past-records p table h =
-    let n = length table / 24 - 1 in
-    let k : length table / 24 ≡ suc n = omega arith in
-    let z : 0 + n * 24 ≡ n * 24 = omega arith in
+    let n = length table / entryLen - 1 in
+    let k : length table / entryLen ≡ suc n = omega arith in
+    let z : 0 + n * entryLen ≡ n * entryLen = omega arith in
     ap (λ (m : ℕ). pastLast p (entriesFrom m table 0)) k ∙ past-last n p table 0 ∙ ap (λ (a : ℕ). beyond (entryAt table a)) z
 
 -- a request and the least stamp that reaches it find the same record

@@ -14,7 +14,8 @@ use Rattle.chunk_index.specs.Entry.{entriesOf}
 use Rattle.chunk_index.specs.declared.entry.ChunkIndexEntry.{ChunkIndexEntry}
 use Rattle.demuxer.specs.declared.position.Position.{Position}
 use Rattle.demuxer.specs.declared.walker.Walker.{Walker}
-use Rattle.seek.specs.Seek.{seekQuestions, least, find, foundOf, pastLast, movedTo, landed, seekOf}
+use Rattle.seek.specs.Seek.{seekQuestions, find, pastLast, movedTo, landed, seekOf}
+use Rattle.seek.specs.Steps.{least, foundOf}
 use Rattle.seek.specs.declared.Found.{Found}
 use Rattle.seek.specs.declared.Found.the-variants.{At, Nowhere}
 use Rattle.seek.proofs.Records.{find-least}

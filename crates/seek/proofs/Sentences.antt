@@ -5,12 +5,12 @@ use mathlib.Core.Bool.{Bool, true, false, cond}
 use mathlib.Core.List.{List, [], _∷_, _++_}
 use mathlib.Core.Option.{Option, none, some}
 use Prim.Native.Nat.{ℕ, _%_}
-use native.Mathlib.Omega.{arith}
 use borrow.Author.Tests.{eq-eqb, eqb-true}
 use lib.Dec.{eqb, leb}
 use lib.IntN.{ℤ, pos}
 use lib.ListN.{length}
 use lib.Signed.{leZ}
+use Rattle.fields.proofs.Impossible.{impossible}
 use Rattle.chunk.specs.Chunk.{streamTag}
 use Rattle.error.specs.Answer.{Answer, accepted, refused, ask, andThen}
 use Rattle.error.specs.Sentences.{RefusedBy}
@@ -63,13 +63,13 @@ module _ (stream : ℕ) (request : ℤ) where
 
   find-some : (es : List ChunkIndexEntry) (p : Position) → find stream request es ≡ some p → First es p
   unfolding find
-  find-some [] p f = let z : _≡_ {A = ℕ} 0 1 = cc in absurd (omega arith)
+  find-some [] p f = impossible cc
   find-some (e ∷ es) p f = on-found e es p (find-some es p) _ refl f
 
   on-none : (e : ChunkIndexEntry) (es : List ChunkIndexEntry) → (find stream request es ≡ none → NoneReaches stream request es)
       → (b : Bool) → reaches stream request e ≡ b → cond b (some (e .position)) (find stream request es) ≡ none
       → NoneReaches stream request (e ∷ es)
-  on-none e es later true t f = let z : _≡_ {A = ℕ} 0 1 = cc in absurd (omega arith)
+  on-none e es later true t f = impossible cc
   on-none e es later false t f = (no-reach e t, later f)
 
   find-none : (es : List ChunkIndexEntry) → find stream request es ≡ none → NoneReaches stream request es
@@ -159,7 +159,7 @@ module _ (table : List ℕ) (w : Walker) (stream : ℕ) (request : ℤ) where
   empty =
       seek-cases table w stream request (λ (q : Seeking). entriesOf table ≡ [] → q .walker .position ≡ w .position)
       (λ r e i. refl)
-      (λ p f i. let z : _≡_ {A = Option Position} none (some p) = sym (ap (find stream request) i) ∙ f in let y : _≡_ {A = ℕ} 0 1 = cc in absurd (omega arith))
+      (λ p f i. let z : _≡_ {A = Option Position} none (some p) = sym (ap (find stream request) i) ∙ f in impossible cc)
       (λ f i. ap (pastLast (w .position)) i)
 
 -- ---- the numbers

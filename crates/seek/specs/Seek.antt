@@ -4,7 +4,7 @@ use mathlib.Core.Bool.{Bool, true, false, cond, _&&_, _||_}
 use mathlib.Core.List.{List, [], _∷_}
 use mathlib.Core.Option.{Option, none, some}
 use lib.Dec.{leb, ltb, eqb}
-use lib.IntN.{ℤ, pos, negsuc}
+use lib.IntN.{ℤ, pos}
 use lib.ListN.{length}
 use lib.Signed.{leZ}
 use Rattle.chunk.specs.Chunk.{videoTag, audioTag, streamTag}
@@ -18,8 +18,6 @@ use Rattle.error.specs.Refusal.{refusalOf}
 use Rattle.seek.specs.declared.SeekResult.{SeekResult}
 use Rattle.seek.specs.declared.SeekResult.the-variants.{Ok, Err}
 use Rattle.seek.specs.declared.Sought.{Sought}
-use Rattle.seek.specs.declared.Found.{Found}
-use Rattle.seek.specs.declared.Found.the-variants.{At, Nowhere}
 
 -- a stream's stamp at a position: frames for stream 0, samples for stream 1
 abbrev pub stampOf : ℕ → Position → ℕ
@@ -96,12 +94,3 @@ saidSeek (Err e) = refused (refusalOf e)
 -- the two parts of what the code returns
 abbrev pub saidSought : Sought → Seeking
 saidSought r = record { answer = saidSeek (r .result); walker = r .walker }
-
--- the least stamp that reaches a signed request
-unfoldable pub least : ℤ → ℕ
-least (pos n) = n
-least (negsuc n) = 0
-
-abbrev pub foundOf : Found → Option Position
-foundOf (At p) = some p
-foundOf Nowhere = none

@@ -8,14 +8,16 @@ use error::AmvError;
 use error::AmvResult;
 ghost use mathlib.Core.Path.{_≡_};
 ghost use mathlib.Core.Bool.{cond};
-ghost use Prim.Native.Nat.{_+_, _<_};
+ghost use Prim.Native.Nat.{_+_, _≤_};
 ghost use lib.Dec.{eqb};
 ghost use lib.IntN.{pos};
-ghost use Rattle.chunk.specs.Chunk.{streamTag};
 ghost use Rattle.error.specs.Refusal.{said};
+ghost use Rattle.fields.specs.Capped.{u32Max};
 ghost use Rattle.chunk_index.specs.Entry.{Small, entriesOf};
-ghost use Rattle.seek.specs.Seek.{goodEntry, goodEntries, seekQuestions, stampOf, least, reaches, find, foundOf, beyond, pastLast, movedTo, landed, saidSought, seekOf};
+ghost use Rattle.seek.specs.Seek.{goodEntry, goodEntries, seekQuestions, stampOf, reaches, find, beyond, pastLast, movedTo, landed, saidSought, seekOf};
+ghost use Rattle.seek.specs.Steps.{least, foundOf};
 
+// What a seek answers: the stamp of the stream where the walker now stands, or a refusal.
 pub enum SeekResult {
     Ok(u64),
     Err(AmvError),
@@ -33,6 +35,7 @@ enum Found {
     Nowhere,
 }
 
+// A known tag, and samples below the limit.
 fn good_entry(e: ChunkIndexEntry) -> bool
     ensures { λ r. ⌜ r ≡ goodEntry e ⌝ }
 {
@@ -62,6 +65,7 @@ fn good_entries(records: &[u8]) -> AmvResult
     AmvResult::Ok
 }
 
+// The questions of a seek.
 fn ask_seek(walker: Walker, records: &[u8], stream: u32) -> AmvResult
     ensures { λ r. ⌜ said r ≡ seekQuestions (now (records .entry)) walker stream ⌝ }
 {
@@ -93,6 +97,7 @@ fn least_stamp(request: i64) -> u64
     request as u64
 }
 
+// A stream's stamp at a position: frames for stream 0, samples for stream 1.
 fn stamp_of(stream: u32, position: Position) -> u64
     ensures { λ r. ⌜ r ≡ stampOf stream position ⌝ }
 {
@@ -102,6 +107,7 @@ fn stamp_of(stream: u32, position: Position) -> u64
     position.samples.0
 }
 
+// Whether a record is of the stream and its stamp reaches a request.
 fn reaches_entry(stream: u32, request: u64, e: ChunkIndexEntry) -> bool
     ensures { λ r. ⌜ r ≡ reaches stream (pos request) e ⌝ }
 {
@@ -134,7 +140,7 @@ fn find_entry(records: &[u8], stream: u32, request: u64) -> Found
 
 // One more where a record's tag is the one that is counted.
 fn counted(count: u64, tag: u32, wanted: u32) -> u64
-    requires { ⌜ count < 4294967296 ⌝ }
+    requires { ⌜ count ≤ u32Max ⌝ }
     ensures { λ r. ⌜ r ≡ cond (eqb tag wanted) (count + 1) count ⌝ }
 {
     if tag == wanted {
@@ -143,6 +149,7 @@ fn counted(count: u64, tag: u32, wanted: u32) -> u64
     count
 }
 
+// The position past a record: one more frame or block, the samples as they were.
 fn beyond_entry(e: ChunkIndexEntry) -> Position
     requires { ⌜ Small (e .position) ⌝ }
     ensures { λ r. ⌜ r ≡ beyond e ⌝ }
@@ -185,6 +192,7 @@ fn moved_to(walker: Walker, stream: u32, position: Position, end: bool) -> Sough
     }
 }
 
+// Where the search leads.
 fn land(walker: Walker, records: &[u8], stream: u32, found: Found) -> Sought
     ensures { λ r. ⌜ saidSought r ≡ landed (entriesOf (now (records .entry))) walker stream (foundOf found) ⌝ }
 {
@@ -197,6 +205,9 @@ fn land(walker: Walker, records: &[u8], stream: u32, found: Found) -> Sought
     }
 }
 
+// Moves a walker to the first record of a stream whose stamp reaches a request, or past the last record with the end mark, without walking the
+// file. Refused in this order, with the walker as it was: a table that is no whole number of records with 41, a stream that is not 0 or 1 with
+// 42, a record of another tag or too many samples with 43 at its start, a position out of range with 32.
 pub fn seek_to_via_index(walker: Walker, records: &[u8], stream: u32, request: i64) -> Sought
     ensures { λ r. ⌜ saidSought r ≡ seekOf (now (records .entry)) walker stream request ⌝ }
 {

@@ -1,3 +1,5 @@
+-- `chunk::stream_tag` meets its contract. The test is that of `streamTag`.
+-- Assumes nothing.
 use borrow.Author.Tests.{eq-eqb, ne-eqb}
 use Rattle.chunk.proofs.stream_tag.Statement.{statement}
 use Rattle.chunk.proofs.stream_tag.Tie as tie

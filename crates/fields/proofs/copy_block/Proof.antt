@@ -1,4 +1,7 @@
-use mathlib.Core.Path.{_≡_, refl, sym, ap, _∙_}
+-- `fields::copy_block` meets its contract. What stands at the block's front after the first copy is `src` (`front-put`), so the second copy puts `src`
+-- into the buffer.
+-- Assumes nothing.
+use mathlib.Core.Path.{sym, ap, _∙_}
 use native.Mathlib.Omega.{arith}
 use lib.ListN.{length}
 use lib.Seq.{length-take-le}

@@ -1,3 +1,6 @@
+-- `fields::copy_bytes` meets its contract. The invariant of its loop: the buffer is the old one with the first i bytes of `src` pasted at the offset, as
+-- long as it was, and i is at most the length of `src`. The measure is that length less i; `copy-more` is a turn and `copy-done` the end.
+-- Assumes nothing.
 use mathlib.Core.Path.{_≡_, refl, _∙_}
 use Prim.Native.Nat.{_≤_, _-_}
 use native.Mathlib.Omega.{arith}

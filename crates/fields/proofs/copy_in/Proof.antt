@@ -1,3 +1,7 @@
+-- `fields::copy_in` meets its contract. The invariant of its loop: the buffer is the old one with the first i bytes of `src` put at the offset, and i is
+-- at most the length of `src`. The measure is that length less i; a block more is a longer front of `src` (`part-copied`), and the last block completes
+-- it.
+-- Assumes nothing.
 use mathlib.Core.Path.{_≡_, refl, sym, ap, _∙_}
 use Prim.Native.Nat.{_+_, _-_, _≤_}
 use native.Mathlib.Omega.{arith}

@@ -1,3 +1,5 @@
+-- `fields::quotient` meets its contract. `quotient` asks whether the divisor is 0 as the code does, and past that test the division is defined.
+-- Assumes nothing.
 use borrow.Author.Tests.{eq-eqb, ne-eqb}
 use borrow.Author.Needs.{needs}
 use Rattle.fields.proofs.quotient.Statement.{statement}

@@ -1,3 +1,5 @@
+-- `fields::read_u16_le` meets its contract. A byte is a field of width 1 (`le-one`), and `le-halves` joins two such fields into one of width 2.
+-- Assumes nothing.
 use mathlib.Core.Path.{sym, _∙_}
 use Rattle.fields.proofs.Laws.{le-one, le-halves}
 use borrow.Author.Needs.{needs}

@@ -1,3 +1,5 @@
+-- `fields::read_u32_le` meets its contract. The two reads of 16 bits are the halves that `le-halves` joins; below 2 ^ 16 each, they fit their sum.
+-- Assumes nothing.
 use Rattle.fields.proofs.Laws.{le-halves}
 use borrow.Author.Needs.{needs}
 use Rattle.fields.proofs.read_u32_le.Statement.{statement}

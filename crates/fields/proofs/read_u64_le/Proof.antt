@@ -1,3 +1,5 @@
+-- `fields::read_u64_le` meets its contract. The two reads of 32 bits are the halves that `le-halves` joins.
+-- Assumes nothing.
 use Rattle.fields.proofs.Laws.{le-halves}
 use borrow.Author.Needs.{needs}
 use Rattle.fields.proofs.read_u64_le.Statement.{statement}

@@ -1,3 +1,5 @@
+-- `fields::write_u16_le` meets its contract. A byte stored is a field of width 1 (`putLe-one`); `putLe-halves` makes one field of the two stores.
+-- Assumes nothing.
 use mathlib.Core.Path.{sym, ap, _∙_}
 use native.Mathlib.Omega.{arith}
 use lib.ListN.{length-set}

@@ -1,3 +1,6 @@
+-- `fields::write_u32_le` meets its contract. The low half is the value modulo 2 ^ 16 and the high half its quotient, which is how `putLe-halves` splits a
+-- field.
+-- Assumes nothing.
 use native.Mathlib.Omega.{arith}
 use Rattle.fields.proofs.Laws.{putLe-halves}
 use borrow.Author.Needs.{needs}

@@ -1,3 +1,6 @@
+-- `fields::write_u64_le` meets its contract. The low half is the value modulo 2 ^ 32 and the high half its quotient; `putLe-halves` makes one field of the
+-- two writes.
+-- Assumes nothing.
 use native.Mathlib.Omega.{arith}
 use Rattle.fields.proofs.Laws.{putLe-halves}
 use borrow.Author.Needs.{needs}

@@ -1,3 +1,6 @@
+-- `muxer::has_room` meets its contract. Comparing by subtraction with the smaller of room and limit decides whether the sum, which may be past a u64, is
+-- at most both (`fits-yes`, `fits-no`).
+-- Assumes nothing.
 use Prim.Native.Nat.{_+_}
 use mathlib.Core.Path.{sym}
 use native.Mathlib.Omega.{arith}

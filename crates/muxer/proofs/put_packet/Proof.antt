@@ -1,3 +1,6 @@
+-- `muxer::put_packet` meets its contract. A tag, a length and a payload, each put right after the one before, are one put of the packet's bytes
+-- (`put-packet`).
+-- Assumes nothing.
 use mathlib.Core.Path.{ap, _∙_}
 use Prim.Native.Nat.{ℕ, _+_}
 use Rattle.fields.specs.Le.{putLe}

@@ -1,3 +1,6 @@
+-- `seek::ask_seek` meets its contract. The tests are the questions 41, 42, 43 and 32 in their order; each return has the answers of those before it, and
+-- 43 is what `good_entries` gives.
+-- Assumes nothing.
 use mathlib.Core.Path.{sym, ap, _∙_}
 use borrow.Author.Tests.{eq-eqb, ne-eqb, le-leb, lt-leb, not-true, not-false}
 use Rattle.error.specs.Refusal.{said}

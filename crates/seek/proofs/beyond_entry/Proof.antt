@@ -1,3 +1,6 @@
+-- `seek::beyond_entry` meets its contract. The two counters are what `counted` gives for the record's tag; a record's fields are of 32 bits, so one more
+-- fits.
+-- Assumes nothing.
 use borrow.Author.Needs.{needs}
 use Rattle.seek.proofs.beyond_entry.Statement.{statement}
 use Rattle.seek.proofs.beyond_entry.Tie as tie

@@ -1,3 +1,6 @@
+-- `seek::beyond_last` meets its contract. Without records `pastLast` is the position itself. Otherwise only the last record counts (`past-records`), and
+-- its fields are small since they are read from bytes (`entry-small`).
+-- Assumes nothing.
 use mathlib.Core.Path.{sym, ap, _∙_}
 use Rattle.fields.specs.Le.{Bytes}
 use Rattle.chunk_index.specs.Entry.{entriesFrom}

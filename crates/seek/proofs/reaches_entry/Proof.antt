@@ -1,3 +1,6 @@
+-- `seek::reaches_entry` meets its contract. The tag is compared with what `stream_tag` gives and the request with what `stamp_of` gives, which are the two
+-- conjuncts of `reaches`.
+-- Assumes nothing.
 use mathlib.Core.Path.{sym}
 use borrow.Author.Tests.{eq-eqb, ne-eqb}
 use borrow.Author.Needs.{needs}

@@ -1,10 +1,14 @@
+-- `seek::seek_to_via_index` meets its contract. What the questions refuse is refused with the walker as it was (`seek-refused`). Past them the least stamp
+-- that reaches the request finds the same record as the request (`seek-lands`).
+-- Assumes nothing.
 use mathlib.Core.Path.{_≡_, sym, ap, _∙_}
 use Prim.Native.Nat.{ℕ}
 use lib.IntN.{pos}
 use mir.Syntax.{w64}
 use mir.ValLaws.{toZ-ofZ}
 use Rattle.chunk_index.specs.Entry.{entriesOf}
-use Rattle.seek.specs.Seek.{least, find}
+use Rattle.seek.specs.Seek.{find}
+use Rattle.seek.specs.Steps.{least}
 use Rattle.seek.proofs.Seeks.{seek-refused, seek-lands}
 use borrow.Author.Needs.{needs}
 use Rattle.seek.proofs.seek_to_via_index.Statement.{statement}
@@ -47,7 +51,9 @@ returns-2 c =
     c .before .before .least-stamp .ensures ∙ ap least (toZ-ofZ w64 (a .request) (s .fits .request)) in
     let found = c .before .find-entry .ensures ∙ ap (λ (n : ℕ). find (a .stream) (pos n) (entriesOf (a .records .now))) r in
     c .land .ensures
-    ∙ sym (seek-lands (a .records .now) (a .walker) (a .stream) (a .request) (c .before .before .before .before .before .ask-seek .ensures) (c .before .before .before .enum-told .given .1) found)
+    ∙ sym
+    (seek-lands (a .records .now) (a .walker) (a .stream) (a .request) (c .before .before .before .before .before .ask-seek .ensures)
+    (c .before .before .before .enum-told .given .1) found)
 
 pub seek-to-via-index-spec : {M : Type 1} → statement M
 seek-to-via-index-spec =

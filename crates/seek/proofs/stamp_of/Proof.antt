@@ -1,3 +1,5 @@
+-- `seek::stamp_of` meets its contract. The test is that of `stampOf`.
+-- Assumes nothing.
 use borrow.Author.Tests.{eq-eqb, ne-eqb}
 use Rattle.seek.proofs.stamp_of.Statement.{statement}
 use Rattle.seek.proofs.stamp_of.Tie as tie

@@ -1,3 +1,5 @@
+-- `chunk::ChunkHeader::parse` meets its contract. The test is the question 29 of `chunkHeaderOf`, and past it 8 bytes are there for the two reads.
+-- Assumes nothing.
 use borrow.Author.Tests.{le-leb, lt-leb}
 use Rattle.chunk.specs.Chunk.{chunkHeaderOf}
 use borrow.Author.Needs.{needs}

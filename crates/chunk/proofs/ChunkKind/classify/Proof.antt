@@ -1,3 +1,5 @@
+-- `chunk::ChunkKind::classify` meets its contract. The two comparisons are those of `kindOf`, in its order.
+-- Assumes nothing.
 use borrow.Author.Tests.{eq-eqb, ne-eqb}
 use Rattle.chunk.proofs.ChunkKind.classify.Statement.{statement}
 use Rattle.chunk.proofs.ChunkKind.classify.Tie as tie

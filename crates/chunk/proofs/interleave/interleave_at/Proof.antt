@@ -1,3 +1,6 @@
+-- `chunk::interleave::interleave_at` meets its contract. For each kind that `classify` can give, the parity that the code tests is the one that
+-- `interleaveAt` asks of that kind.
+-- Assumes nothing.
 use mathlib.Core.Path.{sym, _∙_}
 use borrow.Author.Needs.{needs}
 use Rattle.chunk.proofs.interleave.interleave_at.Statement.{statement}

@@ -1,3 +1,7 @@
+-- `chunk::interleave::validate_movi_interleave` meets its contract. The invariant of its loop: what the definition asks from position i on is what it asks
+-- of the whole list, and i is at most the count. The measure is the count less i; `interleave-on` and `interleave-no` are a turn, and at the end only the
+-- parity of the count is left (`ends`).
+-- Assumes nothing.
 use mathlib.Core.Bool.{Bool}
 use borrow.Author.Tests.{eq-eqb, ne-eqb}
 use mathlib.Core.Path.{_≡_, refl, sym, ap, _∙_}
@@ -6,7 +10,6 @@ use native.Mathlib.Omega.{arith}
 use borrow.Author.Needs.{needs}
 use lib.ListN.{length, drop}
 use Rattle.error.specs.Answer.{accepted, ask}
-use Rattle.error.specs.Refusal.{said}
 use Rattle.chunk.specs.Interleave.{interleave, interleaveFrom, even}
 use Rattle.chunk.proofs.Interleaves.{interleave-on, interleave-no, interleave-end}
 use Rattle.chunk.proofs.interleave.validate_movi_interleave.Statement.{statement}
@@ -60,7 +63,8 @@ loop-again c =
     )
 
 -- at the end of the loop every position has passed
-ends : (c : tie.After-loop Inv-loop μ-loop) → interleave (c .before .before .before .args .tags .now) ≡ ask (even (c .before .loop .i)) 65 (c .before .loop .i) (accepted tt)
+ends : (c : tie.After-loop Inv-loop μ-loop)
+    → interleave (c .before .before .before .args .tags .now) ≡ ask (even (c .before .loop .i)) 65 (c .before .loop .i) (accepted tt)
 ends c =
     let tags = c .before .before .before .args .tags .now in
     let e : c .before .loop .i ≡ length tags = omega arith in

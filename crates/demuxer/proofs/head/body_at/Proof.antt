@@ -1,3 +1,6 @@
+-- `demuxer::head::body_at` meets its contract. Comparing by subtraction, which cannot wrap, decides whether start and length together are at most the
+-- file's length.
+-- Assumes nothing.
 use Prim.Native.Nat.{_+_}
 use native.Mathlib.Omega.{arith}
 use borrow.Author.Tests.{le-leb, lt-leb}

@@ -1,3 +1,5 @@
+-- `demuxer::head::chunk_head` meets its contract. In each arm the kind that `classify` gave is the kind that `kindHead` goes by.
+-- Assumes nothing.
 use mathlib.Core.Path.{sym, _∙_}
 use borrow.Author.Needs.{needs}
 use Rattle.demuxer.proofs.head.chunk_head.Statement.{statement}

@@ -1,7 +1,10 @@
-use mathlib.Core.Path.{_≡_, sym, ap, _∙_}
+-- `demuxer::head::head_at` meets its contract. The two tests decide by subtraction whether 8 bytes are there; past them the two reads give the tag and the
+-- length of `headAt`, by `head-trailer` or `head-chunk`.
+-- Assumes nothing.
+use mathlib.Core.Path.{sym, _∙_}
 use Prim.Native.Nat.{_+_}
 use native.Mathlib.Omega.{arith}
-use borrow.Author.Tests.{le-leb, lt-leb}
+use borrow.Author.Tests.{lt-leb}
 use lib.ListN.{length}
 use Rattle.demuxer.specs.Head.{headAt}
 use Rattle.demuxer.proofs.Heads.{head-trailer, head-chunk}
@@ -40,7 +43,9 @@ is-trailer-requires c κs = search needs
 returns-3 : tie.Need-returns-3
 returns-3 c =
     let a = c .before .before .before .before .before .before .before .args in
-    sym (head-trailer (a .file .now) (a .at) (omega arith) (c .before .before .before .read-u32-le .ensures) (c .before .before .read-u32-le2 .ensures) (sym (c .before .is-trailer .ensures) ∙ c .if3 .taken))
+    sym
+    (head-trailer (a .file .now) (a .at) (omega arith) (c .before .before .before .read-u32-le .ensures) (c .before .before .read-u32-le2 .ensures)
+    (sym (c .before .is-trailer .ensures) ∙ c .if3 .taken))
 
 chunk-head-requires : tie.Need-chunk-head-requires
 chunk-head-requires c κs = search needs
@@ -49,7 +54,9 @@ returns-4 : tie.Need-returns-4
 returns-4 c =
     let a = c .before .before .before .before .before .before .before .before .args in
     c .chunk-head .ensures
-    ∙ sym (head-chunk (a .file .now) (a .at) (omega arith) (c .before .before .before .before .read-u32-le .ensures) (c .before .before .before .read-u32-le2 .ensures) (sym (c .before .before .is-trailer .ensures) ∙ c .before .if3 .left))
+    ∙ sym
+    (head-chunk (a .file .now) (a .at) (omega arith) (c .before .before .before .before .read-u32-le .ensures)
+    (c .before .before .before .read-u32-le2 .ensures) (sym (c .before .before .is-trailer .ensures) ∙ c .before .if3 .left))
 
 pub head-at-spec : {M : Type 1} → statement M
 head-at-spec =

@@ -1,3 +1,5 @@
+-- `demuxer::head::is_trailer` meets its contract. A tag that differs makes the conjunction false; otherwise the second comparison is all that is left.
+-- Assumes nothing.
 use borrow.Author.Tests.{eq-eqb, ne-eqb}
 use Rattle.demuxer.proofs.head.is_trailer.Statement.{statement}
 use Rattle.demuxer.proofs.head.is_trailer.Tie as tie

@@ -1,4 +1,6 @@
--- The count of the preamble read from the part of the payload that is there, by `count-read`; past the file's end there is none.
+-- `demuxer::head::sample_count` meets its contract. The count of the preamble read from the part of the payload that is there, by `count-read`; past the
+-- file's end there is none.
+-- Assumes nothing.
 use Prim.Native.Nat.{_+_, _-_, min}
 use mathlib.Core.Path.{_≡_, sym, ap, _∙_}
 use native.Mathlib.Omega.{arith}

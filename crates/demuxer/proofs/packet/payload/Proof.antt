@@ -1,6 +1,8 @@
+-- `demuxer::packet::payload` meets its contract. Comparing by subtraction decides whether the file has the packet's part. Where it has, the part from
+-- start to end is as long as the packet says.
+-- Assumes nothing.
 use mathlib.Core.Path.{_≡_}
 use Prim.Native.Nat.{_-_}
-use mathlib.Core.Path.{_∙_, sym}
 use Prim.Native.Nat.{_+_}
 use native.Mathlib.Omega.{arith}
 use borrow.Author.Tests.{le-leb, lt-leb}

@@ -1,3 +1,5 @@
+-- `demuxer::packet::shown` meets its contract. The test is that of `durationOf`.
+-- Assumes nothing.
 use borrow.Author.Tests.{eq-eqb, ne-eqb}
 use Rattle.demuxer.proofs.packet.shown.Statement.{statement}
 use Rattle.demuxer.proofs.packet.shown.Tie as tie

@@ -1,3 +1,6 @@
+-- `duration::AmvDuration::consistency_with_frame_count` meets its contract. Each return is one grade of `consistency`: the tests that lead to it are the
+-- tests of the definition, once the calls are replaced by what they give.
+-- Assumes nothing.
 use borrow.Author.Tests.{eq-eqb, ne-eqb}
 use mathlib.Core.Path.{sym, _∙_}
 use Rattle.duration.proofs.Durations.{graded-exact, graded-truncated, graded-mismatch}
@@ -39,7 +42,8 @@ returns-2 c =
     let a = c .before .before .before .before .before .before .args in
     rw (← derived)
     (sym
-    (graded-truncated (a .self) (c .before .before .before .before .before .from-frame-count .result) (sym (c .before .before .before .before .equals .ensures) ∙ c .before .before .before .if1 .left)
+    (graded-truncated (a .self) (c .before .before .before .before .before .from-frame-count .result)
+    (sym (c .before .before .before .before .equals .ensures) ∙ c .before .before .before .if1 .left)
     (rw (← c .before .before .total-seconds .ensures, ← c .before .total-seconds2 .ensures) (eq-eqb _ _ (c .if2 .taken)))))
 
 returns-3 : tie.Need-returns-3
@@ -48,7 +52,8 @@ returns-3 c =
     let a = c .before .before .before .before .before .before .args in
     rw (← derived)
     (sym
-    (graded-mismatch (a .self) (c .before .before .before .before .before .from-frame-count .result) (sym (c .before .before .before .before .equals .ensures) ∙ c .before .before .before .if1 .left)
+    (graded-mismatch (a .self) (c .before .before .before .before .before .from-frame-count .result)
+    (sym (c .before .before .before .before .equals .ensures) ∙ c .before .before .before .if1 .left)
     (rw (← c .before .before .total-seconds .ensures, ← c .before .total-seconds2 .ensures) (ne-eqb _ _ (c .if2 .left)))))
 
 pub consistency-with-frame-count-spec : {M : Type 1} → statement M

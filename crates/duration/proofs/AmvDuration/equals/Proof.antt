@@ -1,3 +1,6 @@
+-- `duration::AmvDuration::equals` meets its contract. The first pair that differs makes the conjunction false; with two pairs equal the third test is all
+-- that is left (`same-hours`).
+-- Assumes nothing.
 use mathlib.Core.Path.{sym}
 use Rattle.duration.proofs.Durations.{same-hours}
 use borrow.Author.Tests.{eq-eqb, ne-eqb}

@@ -1,3 +1,6 @@
+-- `duration::AmvDuration::from_frame_count` meets its contract. For fps 0 both give zeros; otherwise the quotient is defined and `from_seconds` gives the
+-- rest.
+-- Assumes nothing.
 use borrow.Author.Tests.{eq-eqb, ne-eqb}
 use Rattle.duration.specs.Duration.{runLength}
 use borrow.Author.Needs.{needs}

@@ -1,4 +1,7 @@
-use mathlib.Core.Path.{_≡_, refl}
+-- `duration::AmvDuration::from_packed` meets its contract. The quotients by 256 and 65536, modulo 256, are the second and third byte of the packed number;
+-- only the third needs arithmetic.
+-- Assumes nothing.
+use mathlib.Core.Path.{_≡_}
 use Prim.Native.Nat.{_%_, _/_}
 use Rattle.fields.specs.Le.{leBytes}
 use Rattle.duration.specs.Duration.{durationOf}

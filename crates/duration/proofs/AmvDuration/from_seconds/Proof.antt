@@ -1,3 +1,6 @@
+-- `duration::AmvDuration::from_seconds` meets its contract. Each `fields::min` is the definition's, so the code computes the definition; the caps make
+-- each part fit its byte.
+-- Assumes nothing.
 use Rattle.duration.specs.Duration.{ofSeconds}
 use borrow.Author.Needs.{needs}
 use Rattle.duration.proofs.AmvDuration.from_seconds.Statement.{statement}

@@ -1,3 +1,6 @@
+-- `duration::AmvDuration::is_consistent_with_frame_count` meets its contract. It asks `equals` of what `from_frame_count` gives, which are the two parts
+-- of its contract.
+-- Assumes nothing.
 use borrow.Author.Needs.{needs}
 use Rattle.duration.proofs.AmvDuration.is_consistent_with_frame_count.Statement.{
   statement,

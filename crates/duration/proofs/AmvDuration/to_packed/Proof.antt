@@ -1,3 +1,6 @@
+-- `duration::AmvDuration::to_packed` meets its contract. The three parts are bytes, so the sum neither wraps nor differs from the four bytes read as a
+-- number.
+-- Assumes nothing.
 use Rattle.fields.specs.Le.{le}
 use Rattle.duration.specs.Duration.{packedOf}
 use native.Mathlib.Omega.{arith}

@@ -1,3 +1,5 @@
+-- `error::AmvError::refusal` meets its contract. The match has an arm for each case, and each arm gives the line of `refusalOf` for its case (`is`).
+-- Assumes nothing.
 use mathlib.Core.Path.{_≡_, sym, ap}
 use Rattle.error.specs.Refusal.{refusalOf}
 use Rattle.error.specs.declared.AmvError.{AmvError}

@@ -1,3 +1,6 @@
+-- `error::AmvResult::number` meets its contract. The number of an accepted result is 0 by definition; that of a refusal is its error's, by the contract of
+-- `AmvError::number`.
+-- Assumes nothing.
 use mathlib.Core.Path.{sym, ap, _∙_}
 use Rattle.error.specs.Answer.{numberOf}
 use Rattle.error.specs.Refusal.{said}

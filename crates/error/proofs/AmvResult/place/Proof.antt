@@ -1,3 +1,6 @@
+-- `error::AmvResult::place` meets its contract. An accepted result has place 0 by definition; of a refusal it is the error's own, by the contract of
+-- `AmvError::place`.
+-- Assumes nothing.
 use mathlib.Core.Path.{sym, ap, _∙_}
 use Rattle.error.specs.Answer.{placeOf}
 use Rattle.error.specs.Refusal.{said}

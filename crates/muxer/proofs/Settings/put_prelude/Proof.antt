@@ -1,4 +1,8 @@
+-- `muxer::Settings::put_prelude` meets its contract. What is copied are the bytes of `builtOf`, whose length is that of a prelude (`length-prelude`) and
+-- so fits the buffer.
+-- Assumes nothing.
 use Rattle.prelude.specs.Built.{builtOf}
+use Rattle.prelude.specs.Layout.{preludeLen}
 use mathlib.Core.Path.{_≡_, ap, _∙_}
 use native.Mathlib.Omega.{arith}
 use lib.ListN.{length}
@@ -21,8 +25,9 @@ slice-aggregate-copy-in c = search needs
 
 copy-in-requires : tie.Need-copy-in-requires
 copy-in-requires c κs = let s = c .before .before .before .before .before .args .self in
-    let e : length (c .before .before .before .build-prelude-bytes .result .bytes) ≡ 316 =
-    ap (λ (b : BuiltPrelude). length (b .bytes)) {y = builtOf (s .width) (s .height) (s .fps) 0 (s .rate) (s .channels)} (c .before .before .before .build-prelude-bytes .ensures)
+    let e : length (c .before .before .before .build-prelude-bytes .result .bytes) ≡ preludeLen =
+    ap (λ (b : BuiltPrelude). length (b .bytes)) {y = builtOf (s .width) (s .height) (s .fps) 0 (s .rate) (s .channels)}
+    (c .before .before .before .build-prelude-bytes .ensures)
     ∙ length-prelude (s .width) (s .height) (s .fps) 0 (s .rate) (s .channels) in
     omega arith
 
@@ -33,7 +38,8 @@ returns : tie.Need-returns
 returns c = let a = c .before .before .before .before .before .before .before .before .args in
     let s = a .self in
     c .before .before .copy-in .ensures
-    ∙ ap (λ (b : BuiltPrelude). put (a .buf .now) 0 (b .bytes)) {y = builtOf (s .width) (s .height) (s .fps) 0 (s .rate) (s .channels)} (c .before .before .before .before .before .before .build-prelude-bytes .ensures)
+    ∙ ap (λ (b : BuiltPrelude). put (a .buf .now) 0 (b .bytes)) {y = builtOf (s .width) (s .height) (s .fps) 0 (s .rate) (s .channels)}
+    (c .before .before .before .before .before .before .build-prelude-bytes .ensures)
 
 pub put-prelude-spec : {M : Type 1} → statement M
 put-prelude-spec =

@@ -1,3 +1,6 @@
+-- `muxer::Writer::after_packet` meets its contract. The new length is the sum with what `packet_len` gives, within the file limit, and the frames are what
+-- `frames_after` gives.
+-- Assumes nothing.
 use borrow.Author.Needs.{needs}
 use Rattle.muxer.proofs.Writer.after_packet.Statement.{statement}
 use Rattle.muxer.proofs.Writer.after_packet.Tie as tie

@@ -1,3 +1,6 @@
+-- `muxer::Writer::ask_header` meets its contract. The tests are the questions 50, 55 and 54 in their order; 56 passes by itself where 50 has, since
+-- nothing has begun.
+-- Assumes nothing.
 use mathlib.Core.Path.{sym, _∙_}
 use Rattle.muxer.specs.Writer.{headerQuestions}
 use borrow.Author.Needs.{needs}

@@ -1,7 +1,11 @@
+-- `muxer::Writer::ask_packet` meets its contract. What `ask_open` refuses is refused first (`open-err`); past it (`open-ok`) the tests are the questions
+-- 52, 53 and 54, the last one of the length that `packet_len` gives.
+-- Assumes nothing.
 use native.Mathlib.Omega.{arith}
 use mathlib.Core.Path.{sym, ap, _∙_}
 use Prim.Native.Nat.{ℕ, _+_}
 use borrow.Author.Tests.{le-leb, lt-leb}
+use Rattle.chunk.specs.Chunk.{payloadLimit}
 use Rattle.muxer.specs.Writer.{fits, packetQuestions}
 use Rattle.muxer.proofs.Steps.{open-ok, open-err}
 use borrow.Author.Needs.{needs}
@@ -30,13 +34,13 @@ returns-2 : tie.Need-returns-2
 unfolding packetQuestions
 returns-2 c = let a = c .before .before .before .before .args in
     sym (open-ok (a .self) _ (c .before .before .before .ask-open .ensures) (c .before .enum-told .given .1)
-    ∙ rw (lt-leb (a .size) 4294967295 (omega arith)))
+    ∙ rw (lt-leb (a .size) payloadLimit (omega arith)))
 
 returns-3 : tie.Need-returns-3
 unfolding packetQuestions
 returns-3 c = let a = c .before .before .before .before .before .args in
     sym (open-ok (a .self) _ (c .before .before .before .before .ask-open .ensures) (c .before .before .enum-told .given .1)
-    ∙ rw (le-leb (a .size) 4294967295 (omega arith), lt-leb (a .stream) 1 (omega arith)))
+    ∙ rw (le-leb (a .size) payloadLimit (omega arith), lt-leb (a .stream) 1 (omega arith)))
 
 packet-len-requires : tie.Need-packet-len-requires
 packet-len-requires c κs = search needs
@@ -47,9 +51,10 @@ has-room-requires c κs = search needs
 returns-4 : tie.Need-returns-4
 unfolding packetQuestions
 returns-4 c = let a = c .before .before .before .before .before .before .before .before .args in
-    sym (open-ok (a .self) _ (c .before .before .before .before .before .before .before .ask-open .ensures) (c .before .before .before .before .before .enum-told .given .1)
+    sym (open-ok (a .self) _ (c .before .before .before .before .before .before .before .ask-open .ensures)
+    (c .before .before .before .before .before .enum-told .given .1)
     ∙ rw (
-      le-leb (a .size) 4294967295 (omega arith),
+      le-leb (a .size) payloadLimit (omega arith),
       le-leb (a .stream) 1 (omega arith),
       ap (λ (n : ℕ). fits (a .self .written + n) (a .room)) (sym (c .before .before .packet-len .ensures)) ∙ sym (c .before .has-room .ensures) ∙ c .if3 .taken,
     ))
@@ -57,9 +62,10 @@ returns-4 c = let a = c .before .before .before .before .before .before .before 
 returns-5 : tie.Need-returns-5
 unfolding packetQuestions
 returns-5 c = let a = c .before .before .before .before .before .before .before .before .args in
-    sym (open-ok (a .self) _ (c .before .before .before .before .before .before .before .ask-open .ensures) (c .before .before .before .before .before .enum-told .given .1)
+    sym (open-ok (a .self) _ (c .before .before .before .before .before .before .before .ask-open .ensures)
+    (c .before .before .before .before .before .enum-told .given .1)
     ∙ rw (
-      le-leb (a .size) 4294967295 (omega arith),
+      le-leb (a .size) payloadLimit (omega arith),
       le-leb (a .stream) 1 (omega arith),
       ap (λ (n : ℕ). fits (a .self .written + n) (a .room)) (sym (c .before .before .packet-len .ensures)) ∙ sym (c .before .has-room .ensures) ∙ c .if3 .left,
     ))

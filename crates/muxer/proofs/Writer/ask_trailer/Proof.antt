@@ -1,3 +1,6 @@
+-- `muxer::Writer::ask_trailer` meets its contract. What `ask_open` refuses is refused first (`open-err`); past it (`open-ok`) room for 8 bytes is the
+-- question 54.
+-- Assumes nothing.
 use mathlib.Core.Path.{sym, _∙_}
 use Rattle.muxer.specs.Writer.{trailerQuestions}
 use Rattle.muxer.proofs.Steps.{open-ok, open-err}
@@ -27,12 +30,16 @@ has-room-requires c κs = search needs
 
 returns-2 : tie.Need-returns-2
 unfolding trailerQuestions
-returns-2 c = sym (open-ok (c .before .before .before .before .before .args .self) _ (c .before .before .before .before .ask-open .ensures) (c .before .before .enum-told .given .1)
+returns-2 c =
+    sym (open-ok (c .before .before .before .before .before .args .self) _ (c .before .before .before .before .ask-open .ensures)
+    (c .before .before .enum-told .given .1)
     ∙ rw (sym (c .before .has-room .ensures) ∙ c .if1 .taken))
 
 returns-3 : tie.Need-returns-3
 unfolding trailerQuestions
-returns-3 c = sym (open-ok (c .before .before .before .before .before .args .self) _ (c .before .before .before .before .ask-open .ensures) (c .before .before .enum-told .given .1)
+returns-3 c =
+    sym (open-ok (c .before .before .before .before .before .args .self) _ (c .before .before .before .before .ask-open .ensures)
+    (c .before .before .enum-told .given .1)
     ∙ rw (sym (c .before .has-room .ensures) ∙ c .if1 .left))
 
 pub ask-trailer-spec : {M : Type 1} → statement M

@@ -1,3 +1,6 @@
+-- `muxer::Writer::patch_run_length` meets its contract. The two early returns are the two parts of the definition's test; past them the store is that of
+-- the packed run length.
+-- Assumes nothing.
 use mathlib.Core.Path.{ap, _∙_}
 use Rattle.duration.specs.Duration.{packedOf}
 use Rattle.fields.specs.Le.{putLe}

@@ -1,3 +1,6 @@
+-- `muxer::Writer::write_header` meets its contract. Where the questions pass, the prelude fits the buffer (`header-passed`), and the two ends of the call
+-- are `meets-err` and `meets-ok`.
+-- Assumes nothing.
 use Rattle.fields.specs.Le.{put}
 use Rattle.prelude.specs.Built.{preludeBytes}
 use Rattle.muxer.specs.Writer.{headerCall}
@@ -48,7 +51,8 @@ unfolding headerCall
 returns-2 c = let a = c .before .before .before .before .before .before .before .before .before .before .before .args in
     let told = c .before .before .before .before .before .before .before in
     let s = a .self .settings in
-    steps.meets-ok (a .self) (a .buf .now) _ (put (a .buf .now) 0 (preludeBytes (s .width) (s .height) (s .fps) 0 (s .rate) (s .channels))) (told .before .before .ask-header .ensures) (told .enum-told .given .1)
+    steps.meets-ok (a .self) (a .buf .now) _ (put (a .buf .now) 0 (preludeBytes (s .width) (s .height) (s .fps) 0 (s .rate) (s .channels)))
+    (told .before .before .ask-header .ensures) (told .enum-told .given .1)
     (c .accepted .ensures) (c .before .after-header .ensures) (c .before .before .before .before .put-prelude .ensures)
 
 pub write-header-spec : {M : Type 1} → statement M

@@ -1,3 +1,6 @@
+-- `muxer::Writer::write_packet` meets its contract. Where the questions pass, the packet fits the buffer, the file limit and a length of 32 bits
+-- (`packet-passed`); the two ends of the call are `meets-err` and `meets-ok`.
+-- Assumes nothing.
 use Rattle.fields.specs.Le.{put}
 use Rattle.muxer.specs.Writer.{packetBytes}
 use Rattle.muxer.specs.Writer.{packetCall}
@@ -33,7 +36,8 @@ put-packet-requires c κs = let a = c .before .before .before .before .before .b
 after-packet-requires : tie.Need-after-packet-requires
 after-packet-requires c κs = let a = c .before .before .before .before .before .before .before .before .before .args in
     let told = c .before .before .before .before in
-    steps.packet-passed (a .self) _ (a .stream) _ (steps.told-ok (told .before .before .ask-packet .ensures) (told .enum-told .given .1)) .limit
+    let p = steps.packet-passed (a .self) _ (a .stream) _ (steps.told-ok (told .before .before .ask-packet .ensures) (told .enum-told .given .1)) in
+    (p .limit, p .short)
 
 accepted-requires : tie.Need-accepted-requires
 accepted-requires c κs = search needs
@@ -50,7 +54,8 @@ returns-2 : tie.Need-returns-2
 unfolding packetCall
 returns-2 c = let a = c .before .before .before .before .before .before .before .before .before .before .before .args in
     let told = c .before .before .before .before .before .before in
-    steps.meets-ok (a .self) (a .buf .now) _ (put (a .buf .now) (a .self .written) (packetBytes (a .stream) (a .payload .now))) (told .before .before .ask-packet .ensures) (told .enum-told .given .1)
+    steps.meets-ok (a .self) (a .buf .now) _ (put (a .buf .now) (a .self .written) (packetBytes (a .stream) (a .payload .now)))
+    (told .before .before .ask-packet .ensures) (told .enum-told .given .1)
     (c .accepted .ensures) (c .before .after-packet .ensures) (c .before .before .before .before .put-packet .ensures)
 
 pub write-packet-spec : {M : Type 1} → statement M

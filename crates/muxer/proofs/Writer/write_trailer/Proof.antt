@@ -1,3 +1,6 @@
+-- `muxer::Writer::write_trailer` meets its contract. Where the questions pass, 8 bytes fit behind a whole prelude (`trailer-passed`), so offset 84 lies in
+-- the buffer for the patch; the two ends of the call are `meets-err` and `meets-ok`.
+-- Assumes nothing.
 use mathlib.Core.Path.{_≡_, ap, _∙_}
 use mathlib.Core.List.{List}
 use Prim.Native.Nat.{ℕ}

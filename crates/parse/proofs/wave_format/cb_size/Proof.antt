@@ -1,3 +1,5 @@
+-- `parse::wave_format::cb_size` meets its contract. The test is that of `cbSizeOf`, and past it 20 bytes are there.
+-- Assumes nothing.
 use borrow.Author.Tests.{le-leb, lt-leb}
 use Rattle.parse.specs.WaveFormat.{cbSizeOf}
 use borrow.Author.Needs.{needs}

@@ -1,11 +1,14 @@
-use mathlib.Core.Path.{_≡_, refl, sym, ap, _∙_}
+-- `prelude::build::build_prelude_bytes` meets its contract. The three helpers' stores follow one another, each over what the one before left; that all of
+-- them over zeros are the fields in their order is a computation (`whole`).
+-- Assumes nothing.
+use mathlib.Core.Path.{_≡_, refl, ap, _∙_}
 use Prim.Native.Nat.{ℕ}
 use mathlib.Core.List.{List}
 use lib.ListN.{replicate}
 use Rattle.fields.specs.Le.{leBytes, put}
-use Rattle.prelude.specs.Layout.{layout}
+use Rattle.prelude.specs.Layout.{preludeLen, layout}
 use Rattle.prelude.specs.Built.{preludeBytes}
-use Rattle.prelude.specs.Stores.{writeItems, headerStores, waveFormatStores}
+use Rattle.prelude.specs.Steps.{writeItems, headerStores, waveFormatStores}
 use borrow.Author.Needs.{needs}
 use Rattle.prelude.proofs.build.build_prelude_bytes.Statement.{statement}
 use Rattle.prelude.proofs.build.build_prelude_bytes.Tie as tie
@@ -17,7 +20,7 @@ use Rattle.prelude.proofs.build.write_wave_format.Reads as write-wave-f
 
 -- the stores give the fields in their order, which antt computes
 whole : (width height fps duration rate channels : ℕ)
-    → waveFormatStores (headerStores (writeItems (replicate 316 0) layout) width height fps duration) rate channels
+    → waveFormatStores (headerStores (writeItems (replicate preludeLen 0) layout) width height fps duration) rate channels
     ≡ preludeBytes width height fps duration rate channels
 unfolding leBytes put layout preludeBytes writeItems headerStores waveFormatStores
 whole width height fps duration rate channels = refl

@@ -1,8 +1,10 @@
+-- `prelude::build::write_header_body` meets its contract. Six stores, each over what the one before left: their equations nest into `headerStores`.
+-- Assumes nothing.
 use mathlib.Core.Path.{ap, _∙_}
 use Prim.Native.Nat.{ℕ}
 use mathlib.Core.List.{List}
 use Rattle.fields.specs.Le.{putLe}
-use Rattle.prelude.specs.Stores.{headerStores}
+use Rattle.prelude.specs.Steps.{headerStores}
 use borrow.Author.Needs.{needs}
 use Rattle.prelude.proofs.build.write_header_body.Statement.{statement}
 use Rattle.prelude.proofs.build.write_header_body.Tie as tie

@@ -1,6 +1,6 @@
-use mathlib.Core.Path.{_≡_, sym, ap, _∙_, subst}
+-- `prelude::build::write_item` meets its contract. In each arm the matched item says what `writeItem` does, and `Within` that its four bytes are there.
+-- Assumes nothing.
 use native.Mathlib.Omega.{arith}
-use Rattle.prelude.specs.Stores.{Within}
 use borrow.Author.Needs.{needs}
 use Rattle.prelude.proofs.build.write_item.Statement.{statement}
 use Rattle.prelude.proofs.build.write_item.Tie as tie

@@ -1,10 +1,13 @@
-use mathlib.Core.Path.{_≡_, refl, sym, ap, _∙_, subst}
-use Prim.Native.Nat.{ℕ, _≤_, _-_}
+-- `prelude::build::write_layout` meets its contract. The invariant of its loop: writing the items from i on gives what writing all of them to the first
+-- bytes gives, the length is kept, and i is at most the number of items. The measure is that number less i; `written-step` is a turn.
+-- Assumes nothing.
+use mathlib.Core.Path.{_≡_, refl, sym, _∙_}
+use Prim.Native.Nat.{_≤_, _-_}
 use native.Mathlib.Omega.{arith}
 use borrow.Author.Needs.{needs}
 use lib.ListN.{length, drop}
 use Rattle.prelude.specs.Layout.{layout}
-use Rattle.prelude.specs.Stores.{Within, writeItem, writeItems}
+use Rattle.prelude.specs.Steps.{writeItems}
 use Rattle.prelude.proofs.Stored.{within, written-step}
 use Rattle.prelude.proofs.build.write_layout.Statement.{statement}
 use Rattle.prelude.proofs.build.write_layout.Tie as tie

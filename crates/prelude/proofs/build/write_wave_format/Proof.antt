@@ -1,8 +1,11 @@
+-- `prelude::build::write_wave_format` meets its contract. Six stores, each over what the one before left, nest into `waveFormatStores`; the average is
+-- what the capped product gives.
+-- Assumes nothing.
 use mathlib.Core.Path.{ap, _∙_}
 use Prim.Native.Nat.{ℕ}
 use mathlib.Core.List.{List}
 use Rattle.fields.specs.Le.{putLe}
-use Rattle.prelude.specs.Stores.{waveFormatStores}
+use Rattle.prelude.specs.Steps.{waveFormatStores}
 use borrow.Author.Needs.{needs}
 use Rattle.prelude.proofs.build.write_wave_format.Statement.{statement}
 use Rattle.prelude.proofs.build.write_wave_format.Tie as tie

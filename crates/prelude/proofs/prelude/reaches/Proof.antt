@@ -1,3 +1,5 @@
+-- `prelude::prelude::reaches` meets its contract. Comparing by subtraction, which cannot wrap, decides whether the sum is at most the file's length.
+-- Assumes nothing.
 use native.Mathlib.Omega.{arith}
 use borrow.Author.Tests.{lt-leb, le-leb}
 use Prim.Native.Nat.{_+_}

@@ -1,5 +1,8 @@
-use mathlib.Core.Path.{_≡_, refl, sym, ap, _∙_}
-use Prim.Native.Nat.{ℕ, _≤_, _+_, _-_}
+-- `prelude::prelude::require_all_zero` meets its contract. The invariant of its loop: asking the bytes from i on is asking all of them, and i is at most
+-- the length. The measure is the length less i; `zeros-on` and `zeros-no` are a turn.
+-- Assumes nothing.
+use mathlib.Core.Path.{_≡_, sym, _∙_}
+use Prim.Native.Nat.{_≤_, _+_, _-_}
 use native.Mathlib.Nat.{add-zero, sub-zero}
 use native.Mathlib.Omega.{arith}
 use Rattle.prelude.specs.Prelude.{zeros}

@@ -1,3 +1,5 @@
+-- `prelude::prelude::require_body` meets its contract. What `reaches` answers is the question of `askBody`.
+-- Assumes nothing.
 use mathlib.Core.Path.{sym, _∙_}
 use Rattle.prelude.specs.Layout.{askBody}
 use borrow.Author.Needs.{needs}

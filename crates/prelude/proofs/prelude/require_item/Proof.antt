@@ -1,3 +1,5 @@
+-- `prelude::prelude::require_item` meets its contract. In each arm the matched item says which question `askItem` asks, and the callee asks it.
+-- Assumes nothing.
 use borrow.Author.Needs.{needs}
 use Rattle.prelude.proofs.prelude.require_item.Statement.{statement}
 use Rattle.prelude.proofs.prelude.require_item.Tie as tie

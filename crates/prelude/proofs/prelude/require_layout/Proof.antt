@@ -1,10 +1,12 @@
+-- `prelude::prelude::require_layout` meets its contract. The invariant of its loop: asking the items from i on is asking all of them, and i is at most
+-- their number. The measure is that number less i; `items-step` is a turn.
+-- Assumes nothing.
 use Rattle.error.specs.Refusal.{said}
 use mathlib.Core.Path.{_≡_, refl, sym, ap, _∙_}
-use Prim.Native.Nat.{ℕ, _≤_, _-_}
+use Prim.Native.Nat.{_≤_, _-_}
 use native.Mathlib.Omega.{arith}
 use borrow.Author.Needs.{needs}
-use lib.ListN.{length, drop}
-use lib.Seq.{drop-length}
+use lib.ListN.{drop}
 use Rattle.error.proofs.Answers.{then-ok, then-err}
 use Rattle.prelude.specs.Layout.{layout, askItem, askItems}
 use Rattle.prelude.proofs.Layouts.{items-step}

@@ -1,5 +1,7 @@
+-- `prelude::prelude::require_word` meets its contract. `reaches` answers the first question of `askWord` and so allows the read; the comparison is the
+-- second.
+-- Assumes nothing.
 use mathlib.Core.Path.{sym, _∙_}
-use native.Mathlib.Omega.{arith}
 use borrow.Author.Tests.{leb-true, eq-eqb, ne-eqb}
 use Rattle.prelude.specs.Layout.{askWord}
 use borrow.Author.Needs.{needs}
@@ -18,11 +20,21 @@ read-u32-le-requires c κs = leb-true _ _ (sym (c .before .reaches .ensures) ∙
 
 returns : tie.Need-returns
 unfolding askWord
-returns c = rw (sym (c .before .before .before .reaches .ensures) ∙ c .before .before .if1 .taken, ← c .before .read-u32-le .ensures, eq-eqb _ _ (c .if2 .taken))
+returns c =
+    rw (
+      sym (c .before .before .before .reaches .ensures) ∙ c .before .before .if1 .taken,
+      ← c .before .read-u32-le .ensures,
+      eq-eqb _ _ (c .if2 .taken),
+    )
 
 returns-2 : tie.Need-returns-2
 unfolding askWord
-returns-2 c = rw (sym (c .before .before .before .reaches .ensures) ∙ c .before .before .if1 .taken, ← c .before .read-u32-le .ensures, ne-eqb _ _ (c .if2 .left))
+returns-2 c =
+    rw (
+      sym (c .before .before .before .reaches .ensures) ∙ c .before .before .if1 .taken,
+      ← c .before .read-u32-le .ensures,
+      ne-eqb _ _ (c .if2 .left),
+    )
 
 returns-3 : tie.Need-returns-3
 unfolding askWord

@@ -1,3 +1,6 @@
+-- `prelude::prelude::require_zero_ranges` meets its contract. The four stretches follow one another: each return has `then-ok` for those that are zero and
+-- `then-err` for the one that is not. All of them lie within the prelude.
+-- Assumes nothing.
 use mathlib.Core.Path.{sym, ap, _∙_}
 use Rattle.error.specs.Refusal.{said}
 use Rattle.error.proofs.Answers.{then-ok, then-err}
@@ -47,7 +50,10 @@ enum-told-6 c = search needs
 
 returns-3 : tie.Need-returns-3
 unfolding zeroRanges
-returns-3 c = let first = then-ok _ (c .before .before .before .before .before .before .before .before .require-all-zero .ensures) (c .before .before .before .before .before .before .enum-told .given .1) in
+returns-3 c =
+    let first =
+    then-ok _ (c .before .before .before .before .before .before .before .before .require-all-zero .ensures)
+    (c .before .before .before .before .before .before .enum-told .given .1) in
     let second = then-ok _ (c .before .before .before .before .before .require-all-zero2 .ensures) (c .before .before .before .enum-told3 .given .1) in
     ap said (c .enum-told6 .given .1) ∙ sym (first ∙ second ∙ then-err _ (c .before .before .require-all-zero3 .ensures) (c .enum-told6 .given .1))
 
@@ -56,8 +62,12 @@ require-all-zero-requires-4 c κs = search needs
 
 returns-4 : tie.Need-returns-4
 unfolding zeroRanges
-returns-4 c = let first = then-ok _ (c .before .before .before .before .before .before .before .before .before .require-all-zero .ensures) (c .before .before .before .before .before .before .before .enum-told .given .1) in
-    let second = then-ok _ (c .before .before .before .before .before .before .require-all-zero2 .ensures) (c .before .before .before .before .enum-told3 .given .1) in
+returns-4 c =
+    let first =
+    then-ok _ (c .before .before .before .before .before .before .before .before .before .require-all-zero .ensures)
+    (c .before .before .before .before .before .before .before .enum-told .given .1) in
+    let second =
+    then-ok _ (c .before .before .before .before .before .before .require-all-zero2 .ensures) (c .before .before .before .before .enum-told3 .given .1) in
     let third = then-ok _ (c .before .before .before .require-all-zero3 .ensures) (c .before .enum-told5 .given .1) in
     c .require-all-zero4 .ensures ∙ sym (first ∙ second ∙ third)
 

@@ -1,4 +1,6 @@
--- The cursor moves by what `advance_total` gives; the counters are the sums themselves.
+-- `demuxer::position::Position::past_frame` meets its contract. The cursor moves by what `advance_total` gives. No sum wraps, since a position in range is
+-- at most 2 ^ 62.
+-- Assumes nothing.
 use borrow.Author.Needs.{needs}
 use Rattle.demuxer.proofs.position.Position.past_frame.Statement.{statement}
 use Rattle.demuxer.proofs.position.Position.past_frame.Tie as tie

@@ -1,4 +1,6 @@
--- The cursor moves by what `advance_total` gives; the counters are the sums themselves.
+-- `demuxer::position::Position::past_sound` meets its contract. The cursor moves by what `advance_total` gives and the samples by the count, a u32; a
+-- position in range leaves room for both.
+-- Assumes nothing.
 use borrow.Author.Needs.{needs}
 use Rattle.demuxer.proofs.position.Position.past_sound.Statement.{statement}
 use Rattle.demuxer.proofs.position.Position.past_sound.Tie as tie

@@ -1,3 +1,5 @@
+-- `demuxer::walker::Walker::new` meets its contract. The position is what `Position::new` gives, and the marks are constants.
+-- Assumes nothing.
 use mathlib.Core.Bool.{false}
 use Rattle.demuxer.specs.declared.walker.Trailer.the-variants.{NotMet}
 use borrow.Author.Needs.{needs}

@@ -1,4 +1,7 @@
-use mathlib.Core.Path.{_≡_, sym, ap, _∙_}
+-- `demuxer::walker::Walker::next_packet` meets its contract. Each early return is a test of `readOf` with the answers of those before it. Past them the
+-- position is in range (`range-facts`), and `read-on` says that what is left is `readChunk`.
+-- Assumes nothing.
+use mathlib.Core.Path.{sym, _∙_}
 use borrow.Author.Tests.{not-true, not-false}
 use Rattle.demuxer.specs.Read.{readOf}
 use Rattle.demuxer.proofs.Ranges.{range-facts}
@@ -51,7 +54,8 @@ returns-4 c =
     let a = c .before .before .before .before .before .before .before .before .args in (
       c .read-chunk .ensures .0
           ∙ sym
-          (read-on (a .file .now) (a .self) (sym (c .before .before .before .before .before .before .within-limit .ensures) ∙ not-false _ (c .before .before .before .before .before .if1 .left))
+          (read-on (a .file .now) (a .self)
+          (sym (c .before .before .before .before .before .before .within-limit .ensures) ∙ not-false _ (c .before .before .before .before .before .if1 .left))
           (sym (c .before .before .before .in-range .ensures) ∙ not-false _ (c .before .before .if2 .left)) (c .before .if3 .left)),
       c .read-chunk .ensures .1,
     )

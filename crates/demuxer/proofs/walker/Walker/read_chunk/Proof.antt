@@ -1,6 +1,8 @@
-use mathlib.Core.Path.{_≡_, sym, ap, _∙_}
-use Rattle.error.specs.Answer.{numbered}
-use Rattle.demuxer.specs.Read.{ReadAnswer, End, readHead, readChunk}
+-- `demuxer::walker::Walker::read_chunk` meets its contract. In each arm the head that `head_at` gave is what `readHead` goes by, and the arm's call gives
+-- that line's reading.
+-- Assumes nothing.
+use mathlib.Core.Path.{sym, ap, _∙_}
+use Rattle.demuxer.specs.Read.{End, readHead, readChunk}
 use borrow.Author.Needs.{needs}
 use Rattle.demuxer.proofs.walker.Walker.read_chunk.Statement.{statement}
 use Rattle.demuxer.proofs.walker.Walker.read_chunk.Tie as tie

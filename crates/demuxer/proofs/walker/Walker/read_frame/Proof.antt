@@ -1,6 +1,8 @@
-use mathlib.Core.Path.{_≡_, sym, ap, _∙_}
-use Rattle.demuxer.specs.Packet.{shownOf}
-use Rattle.demuxer.specs.Read.{End, packet, advanced}
+-- `demuxer::walker::Walker::read_frame` meets its contract. A body that is short leaves the walker cut off (`frame-short`); one that is whole is the
+-- packet's place (`frame-whole`, `body-placed`).
+-- Assumes nothing.
+use mathlib.Core.Path.{sym, ap, _∙_}
+use Rattle.demuxer.specs.Read.{End, advanced}
 use Rattle.demuxer.proofs.Bodies.{body-placed}
 use Rattle.demuxer.proofs.Steps.{frame-short, frame-whole}
 use borrow.Author.Needs.{needs}

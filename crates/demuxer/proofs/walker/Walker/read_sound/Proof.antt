@@ -1,4 +1,7 @@
-use mathlib.Core.Path.{_≡_, sym, ap, _∙_}
+-- `demuxer::walker::Walker::read_sound` meets its contract. As a frame, by `sound-short` and `sound-whole`; the count that the sample stamp grows by is
+-- the one that the duration shows.
+-- Assumes nothing.
+use mathlib.Core.Path.{sym, ap, _∙_}
 use Rattle.demuxer.specs.Read.{End, advanced}
 use Rattle.demuxer.proofs.Bodies.{body-placed}
 use Rattle.demuxer.proofs.Steps.{sound-short, sound-whole}
@@ -52,8 +55,12 @@ returns-2 c =
     let a = c .before .before .before .before .before .before .before .before .before .before .args in
     let got = c .before .before .before .before .before .start .given in
     let whole = sym (c .before .before .before .before .before .before .before .body-at .ensures) ∙ got .1 in
-    let next = c .advanced .ensures ∙ ap (advanced (a .self)) (c .before .past-sound .ensures) in
-    (sym (sound-whole (a .file .now) (a .self) (a .size) _ _ _ _ _ whole (c .before .before .before .sample-count .ensures) (c .before .before .shown .ensures) next), body-placed _ _ _ _ _ whole)
+    let next = c .advanced .ensures ∙ ap (advanced (a .self)) (c .before .past-sound .ensures) in (
+      sym
+          (sound-whole (a .file .now) (a .self) (a .size) _ _ _ _ _ whole (c .before .before .before .sample-count .ensures)
+          (c .before .before .shown .ensures) next),
+      body-placed _ _ _ _ _ whole,
+    )
 
 pub read-sound-spec : {M : Type 1} → statement M
 read-sound-spec =

@@ -1,6 +1,9 @@
+-- `parse::header::AmvHeader::duration_micros` meets its contract. The seconds are those of the packed run length, and their product with 1,000,000 fits an
+-- i64, so its bits read as signed are the product.
+-- Assumes nothing.
 use mathlib.Core.Path.{_≡_, ap, _∙_}
 use native.Mathlib.Omega.{arith}
-use Prim.Native.Nat.{ℕ, _*_}
+use Prim.Native.Nat.{_*_}
 use lib.IntN.{pos}
 use mir.Syntax.{w64}
 use mir.ValLaws.{toZ-pos}

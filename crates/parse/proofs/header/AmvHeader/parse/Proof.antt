@@ -1,3 +1,6 @@
+-- `parse::header::AmvHeader::parse` meets its contract. The test is the question 28 of `headerOf`, and past it 56 bytes are there for the seven reads,
+-- each a field of `headerFields`.
+-- Assumes nothing.
 use borrow.Author.Tests.{le-leb, lt-leb}
 use Rattle.error.specs.Answer.{accepted}
 use Rattle.parse.specs.Header.{headerOf, headerFields}

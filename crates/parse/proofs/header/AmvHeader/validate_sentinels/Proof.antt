@@ -1,3 +1,6 @@
+-- `parse::header::AmvHeader::validate_sentinels` meets its contract. The four tests are the questions 14 to 17 in their order; each return has the answers
+-- of those before it. The divisor is not 0 once 14 has passed.
+-- Assumes nothing.
 use native.Mathlib.Omega.{arith}
 use borrow.Author.Tests.{lt-ltb, le-ltb, eq-eqb, ne-eqb}
 use Rattle.parse.specs.Header.{headerSentinels}
@@ -20,15 +23,32 @@ returns-2 c = rw (lt-ltb 0 (c .before .before .before .before .before .args .sel
 
 returns-3 : tie.Need-returns-3
 unfolding headerSentinels
-returns-3 c = rw (lt-ltb 0 (c .before .before .before .before .before .before .before .args .self .fps) (omega arith), eq-eqb _ _ (c .before .before .if2 .left), ne-eqb _ _ (c .if3 .taken))
+returns-3 c =
+    rw (
+      lt-ltb 0 (c .before .before .before .before .before .before .before .args .self .fps) (omega arith),
+      eq-eqb _ _ (c .before .before .if2 .left),
+      ne-eqb _ _ (c .if3 .taken),
+    )
 
 returns-4 : tie.Need-returns-4
 unfolding headerSentinels
-returns-4 c = rw (lt-ltb 0 (c .before .before .before .before .before .before .before .before .before .args .self .fps) (omega arith), eq-eqb _ _ (c .before .before .before .before .if2 .left), eq-eqb _ _ (c .before .before .if3 .left), ne-eqb _ _ (c .if4 .taken))
+returns-4 c =
+    rw (
+      lt-ltb 0 (c .before .before .before .before .before .before .before .before .before .args .self .fps) (omega arith),
+      eq-eqb _ _ (c .before .before .before .before .if2 .left),
+      eq-eqb _ _ (c .before .before .if3 .left),
+      ne-eqb _ _ (c .if4 .taken),
+    )
 
 returns-5 : tie.Need-returns-5
 unfolding headerSentinels
-returns-5 c = rw (lt-ltb 0 (c .before .before .before .before .before .before .before .before .before .args .self .fps) (omega arith), eq-eqb _ _ (c .before .before .before .before .if2 .left), eq-eqb _ _ (c .before .before .if3 .left), eq-eqb _ _ (c .if4 .left))
+returns-5 c =
+    rw (
+      lt-ltb 0 (c .before .before .before .before .before .before .before .before .before .args .self .fps) (omega arith),
+      eq-eqb _ _ (c .before .before .before .before .if2 .left),
+      eq-eqb _ _ (c .before .before .if3 .left),
+      eq-eqb _ _ (c .if4 .left),
+    )
 
 pub validate-sentinels-spec : {M : Type 1} → statement M
 validate-sentinels-spec =

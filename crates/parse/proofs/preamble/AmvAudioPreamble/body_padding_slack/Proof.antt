@@ -1,3 +1,6 @@
+-- `parse::preamble::AmvAudioPreamble::body_padding_slack` meets its contract. The test is that of `paddingSlack`; the exact length is what
+-- `nibble_body_len` gives plus 8.
+-- Assumes nothing.
 use borrow.Author.Tests.{le-leb, lt-leb}
 use borrow.Author.Needs.{needs}
 use Rattle.parse.proofs.preamble.AmvAudioPreamble.body_padding_slack.Statement.{statement}

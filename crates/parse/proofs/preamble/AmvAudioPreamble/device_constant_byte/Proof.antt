@@ -1,3 +1,5 @@
+-- `parse::preamble::AmvAudioPreamble::device_constant_byte` meets its contract. The quotient of a u32 by 2 ^ 24 is its fourth byte.
+-- Assumes nothing.
 use Rattle.fields.specs.Le.{leBytes}
 use Rattle.parse.specs.Preamble.{stateByte}
 use native.Mathlib.Omega.{arith}

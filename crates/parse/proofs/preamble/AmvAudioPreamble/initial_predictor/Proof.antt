@@ -1,3 +1,6 @@
+-- `parse::preamble::AmvAudioPreamble::initial_predictor` meets its contract. Below 2 ^ 15 the low two bytes are the number itself. From there on it is
+-- negative, and `difference` and `signed` show that the code's difference is what the 16 bits mean.
+-- Assumes nothing.
 use mathlib.Core.Path.{_≡_, refl, sym, ap, _∙_}
 use Prim.Native.Nat.{ℕ, zero, suc, _-_, _%_, _≤_, _<_}
 use native.Mathlib.Nat.{zero-add}

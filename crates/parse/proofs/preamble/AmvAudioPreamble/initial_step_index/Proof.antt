@@ -1,3 +1,5 @@
+-- `parse::preamble::AmvAudioPreamble::initial_step_index` meets its contract. The quotient by 2 ^ 16, modulo 256, is the third byte of the state.
+-- Assumes nothing.
 use Rattle.fields.specs.Le.{leBytes}
 use Rattle.parse.specs.Preamble.{stateByte}
 use native.Mathlib.Omega.{arith}

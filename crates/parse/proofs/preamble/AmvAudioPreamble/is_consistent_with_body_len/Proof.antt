@@ -1,3 +1,6 @@
+-- `parse::preamble::AmvAudioPreamble::is_consistent_with_body_len` meets its contract. The comparison is the contract's, with the length that
+-- `nibble_body_len` gives.
+-- Assumes nothing.
 use borrow.Author.Needs.{needs}
 use Rattle.parse.proofs.preamble.AmvAudioPreamble.is_consistent_with_body_len.Statement.{
   statement,

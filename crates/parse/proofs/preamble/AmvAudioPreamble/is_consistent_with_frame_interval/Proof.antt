@@ -1,3 +1,6 @@
+-- `parse::preamble::AmvAudioPreamble::is_consistent_with_frame_interval` meets its contract. The comparison is the contract's, with what
+-- `fields::quotient` gives.
+-- Assumes nothing.
 use borrow.Author.Needs.{needs}
 use Rattle.parse.proofs.preamble.AmvAudioPreamble.is_consistent_with_frame_interval.Statement.{
   statement,

@@ -1,3 +1,6 @@
+-- `parse::preamble::AmvAudioPreamble::parse` meets its contract. The test is the question 25 of `preambleOf`, and past it 8 bytes are there for the two
+-- reads.
+-- Assumes nothing.
 use borrow.Author.Tests.{le-leb, lt-leb}
 use Rattle.error.specs.Answer.{accepted}
 use Rattle.parse.specs.Preamble.{preambleOf}

@@ -1,3 +1,6 @@
+-- `parse::preamble::AmvAudioPreamble::step_index_in_ima_range` meets its contract. The comparison is the contract's, with the byte that
+-- `initial_step_index` gives.
+-- Assumes nothing.
 use borrow.Author.Needs.{needs}
 use Rattle.parse.proofs.preamble.AmvAudioPreamble.step_index_in_ima_range.Statement.{
   statement,

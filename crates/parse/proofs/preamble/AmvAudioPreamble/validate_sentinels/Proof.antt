@@ -1,3 +1,5 @@
+-- `parse::preamble::AmvAudioPreamble::validate_sentinels` meets its contract. A count that is not 0 is above 0, so the test is the question 26.
+-- Assumes nothing.
 use borrow.Author.Tests.{lt-ltb, le-ltb}
 use native.Mathlib.Omega.{arith}
 use Rattle.parse.proofs.preamble.AmvAudioPreamble.validate_sentinels.Statement.{statement}

@@ -1,4 +1,5 @@
--- The average is what the capped product gives; every other field is the constant itself.
+-- `parse::wave_format::AmvWaveFormat::new` meets its contract. The average is what the capped product gives; every other field is the constant itself.
+-- Assumes nothing.
 use borrow.Author.Needs.{needs}
 use Rattle.parse.proofs.wave_format.AmvWaveFormat.new.Statement.{statement}
 use Rattle.parse.proofs.wave_format.AmvWaveFormat.new.Tie as tie

@@ -1,3 +1,6 @@
+-- `parse::wave_format::AmvWaveFormat::parse` meets its contract. The test is the question 27 of `waveFormatOf`, and past it 18 bytes are there for the
+-- reads; `cb_size` asks for itself whether 20 are.
+-- Assumes nothing.
 use borrow.Author.Tests.{le-leb, lt-leb}
 use Rattle.error.specs.Answer.{accepted}
 use Rattle.parse.specs.WaveFormat.{waveFormatOf, waveFormatFields}

@@ -1,3 +1,6 @@
+-- `prelude::layout::LayoutItem::at` meets its contract. Each arm's number picks its item out of `layout`, which is computed; a number that is none of 0 to
+-- 21 lies past the list (`missed`), where `getD` gives `past`.
+-- Assumes nothing.
 use mathlib.Core.Path.{_≡_, sym}
 use Prim.Native.Nat.{ℕ, zero, suc, _≤_}
 use native.Mathlib.Omega.{arith}

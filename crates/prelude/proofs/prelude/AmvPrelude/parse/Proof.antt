@@ -1,3 +1,6 @@
+-- `prelude::prelude::AmvPrelude::parse` meets its contract. The limit is asked first, then the layout. A layout that passes is a file with a whole prelude
+-- (`layout-length`), which `read` requires.
+-- Assumes nothing.
 use mathlib.Core.Path.{sym, ap, _∙_}
 use borrow.Author.Tests.{not-true, not-false}
 use Rattle.error.specs.Refusal.{said}

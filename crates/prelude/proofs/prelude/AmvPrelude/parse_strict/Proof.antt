@@ -1,7 +1,8 @@
+-- `prelude::prelude::AmvPrelude::parse_strict` meets its contract. A refused parse stays refused; what was parsed has a whole prelude (`parsed-length`),
+-- which `validated` requires.
+-- Assumes nothing.
 use mathlib.Core.Path.{sym, ap, _∙_}
-use Rattle.error.specs.Answer.{Answer, andThen}
-use Rattle.prelude.specs.Prelude.{saidPrelude, strictOf, validatedOf}
-use Rattle.prelude.specs.declared.prelude.AmvPrelude.{AmvPrelude}
+use Rattle.prelude.specs.Prelude.{saidPrelude, strictOf}
 use Rattle.prelude.proofs.Layouts.{parsed-length}
 use borrow.Author.Needs.{needs}
 use Rattle.prelude.proofs.prelude.AmvPrelude.parse_strict.Statement.{statement}

@@ -1,8 +1,12 @@
+-- `prelude::prelude::AmvPrelude::read` meets its contract. The two bodies of a whole prelude are long enough for their readers (`header-body`,
+-- `wave-format-body`), so no reader refuses; the accepted values are the two fields.
+-- Assumes nothing.
 use Rattle.error.specs.Answer.{accepted}
 use Rattle.error.proofs.Answers.{never, accepted-same}
 use mathlib.Core.Path.{sym, ap, _∙_}
 use Rattle.parse.specs.Header.{saidHeader}
 use Rattle.parse.specs.WaveFormat.{saidWaveFormat}
+use Rattle.prelude.specs.Layout.{preludeLen}
 use Rattle.prelude.specs.Prelude.{preludeFields}
 use Rattle.prelude.proofs.Bodies.{header-body, wave-format-body}
 use borrow.Author.Needs.{needs}
@@ -67,9 +71,10 @@ returns-3 c = let start = c .before .before .before .before .before .before .bef
     let file = start .args .file .now in
     let header = c .before .before .before .before .before .before .header .given in
     let format = c .before .format .given in
-    let h = sym (ap saidHeader (header .1)) ∙ c .before .before .before .before .before .before .before .before .parse .ensures ∙ header-body file (start .pre) in
+    let h =
+    sym (ap saidHeader (header .1)) ∙ c .before .before .before .before .before .before .before .before .parse .ensures ∙ header-body file (start .pre) in
     let f = sym (ap saidWaveFormat (format .1)) ∙ c .before .before .before .parse2 .ensures ∙ wave-format-body file (start .pre) in
-    λ i. accepted (record { header = accepted-same h i; «audio_format» = accepted-same f i; «movi_payload_start» = 316 })
+    λ i. accepted (record { header = accepted-same h i; «audio_format» = accepted-same f i; «movi_payload_start» = preludeLen })
 
 pub read-spec : {M : Type 1} → statement M
 read-spec =

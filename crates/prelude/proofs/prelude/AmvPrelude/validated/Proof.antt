@@ -1,4 +1,7 @@
-use mathlib.Core.Path.{sym, ap, _∙_}
+-- `prelude::prelude::AmvPrelude::validated` meets its contract. The three groups of questions follow one another: each return has `then-ok` for the groups
+-- that passed and `then-err` for the one that did not.
+-- Assumes nothing.
+use mathlib.Core.Path.{sym, _∙_}
 use Rattle.error.proofs.Answers.{then-ok, then-err}
 use Rattle.prelude.specs.Prelude.{validatedOf}
 use borrow.Author.Needs.{needs}
@@ -31,7 +34,9 @@ enum-known-e-2 c = search needs
 
 returns-2 : tie.Need-returns-2
 unfolding validatedOf
-returns-2 c = let first = then-ok _ (c .before .before .before .before .before .before .validate-sentinels .ensures) (c .before .before .before .before .enum-told .given .1) in
+returns-2 c =
+    let first =
+    then-ok _ (c .before .before .before .before .before .before .validate-sentinels .ensures) (c .before .before .before .before .enum-told .given .1) in
     sym (first ∙ then-err _ (c .before .before .before .require-zero-ranges .ensures) (c .before .e2 .given .1))
 
 enum-told-2 : tie.Need-enum-told-2
@@ -45,8 +50,13 @@ enum-known-e-3 c = search needs
 
 returns-3 : tie.Need-returns-3
 unfolding validatedOf
-returns-3 c = let first = then-ok _ (c .before .before .before .before .before .before .before .before .before .before .validate-sentinels .ensures) (c .before .before .before .before .before .before .before .before .enum-told .given .1) in
-    let second = then-ok _ (c .before .before .before .before .before .before .before .require-zero-ranges .ensures) (c .before .before .before .before .before .enum-told2 .given .1) in
+returns-3 c =
+    let first =
+    then-ok _ (c .before .before .before .before .before .before .before .before .before .before .validate-sentinels .ensures)
+    (c .before .before .before .before .before .before .before .before .enum-told .given .1) in
+    let second =
+    then-ok _ (c .before .before .before .before .before .before .before .require-zero-ranges .ensures)
+    (c .before .before .before .before .before .enum-told2 .given .1) in
     sym (first ∙ second ∙ then-err _ (c .before .before .before .validate-sentinels2 .ensures) (c .before .e3 .given .1))
 
 enum-told-3 : tie.Need-enum-told-3
@@ -54,8 +64,12 @@ enum-told-3 c = search needs
 
 returns-4 : tie.Need-returns-4
 unfolding validatedOf
-returns-4 c = let first = then-ok _ (c .before .before .before .before .before .before .before .before .before .validate-sentinels .ensures) (c .before .before .before .before .before .before .before .enum-told .given .1) in
-    let second = then-ok _ (c .before .before .before .before .before .before .require-zero-ranges .ensures) (c .before .before .before .before .enum-told2 .given .1) in
+returns-4 c =
+    let first =
+    then-ok _ (c .before .before .before .before .before .before .before .before .before .validate-sentinels .ensures)
+    (c .before .before .before .before .before .before .before .enum-told .given .1) in
+    let second =
+    then-ok _ (c .before .before .before .before .before .before .require-zero-ranges .ensures) (c .before .before .before .before .enum-told2 .given .1) in
     let third = then-ok _ (c .before .before .validate-sentinels2 .ensures) (c .enum-told3 .given .1) in
     sym (first ∙ second ∙ third)
 

@@ -1,4 +1,4 @@
--- What the builder's helpers leave: stores one after another. Only `Built` is to be believed; these are steps on the way. Assumes nothing.
+-- Steps on the way: what private functions promise each other. Nothing here need be believed. Assumes nothing.
 use Prim.Native.Nat.{ℕ, _+_, _≤_}
 use mathlib.Core.List.{List, [], _∷_}
 use Rattle.fields.specs.Capped.{quotient}
