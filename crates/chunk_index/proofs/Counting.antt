@@ -5,6 +5,7 @@ use mathlib.Core.List.{List, [], _∷_}
 use Prim.Native.Nat.{ℕ, zero, suc, _+_, _*_, _≤_, _<_}
 use native.Mathlib.Omega.{arith}
 use lib.ListN.{length}
+use Rattle.chunk.specs.Chunk.{payloadLimit}
 use Rattle.error.specs.Answer.{accepted, andThen}
 use Rattle.error.specs.Refusal.{said}
 use Rattle.error.specs.declared.AmvResult.{AmvResult}
@@ -64,7 +65,7 @@ records-few file = rw (records-length start (fileWalk file)) (count-le (length f
 
 -- an offset of the walk, after so many chunks: the tags from there on are what is left of the question
 pub record Headers (file : List ℕ) (at chunks : ℕ) : Type 0 where
-  pub at-le : at ≤ fileLimit + 4294967295
+  pub at-le : at ≤ fileLimit + payloadLimit
   pub chunks-le : preludeLen + 8 * chunks ≤ at
   pub known : tagsKnown at (walk file at) ≡ tagsKnown preludeLen (fileWalk file)
 
@@ -72,7 +73,7 @@ pub headers-start : (file : List ℕ) → Headers file preludeLen 0
 headers-start file = record { at-le = omega arith; chunks-le = omega arith; known = refl }
 
 module _ {file : List ℕ} {at chunks : ℕ} (h : Headers file at chunks) where
-  pub headers-on : {c : ChunkAt} → length file ≤ fileLimit → c .size < 4294967296 → Goes file at c → recordedAt c ≡ true
+  pub headers-on : {c : ChunkAt} → length file ≤ fileLimit → c .size ≤ payloadLimit → Goes file at c → recordedAt c ≡ true
       → Headers file (at + (8 + c .size)) (chunks + 1)
   headers-on {c} l b g r =
       record { at-le = omega (arith, g .there); chunks-le = omega (arith, h .chunks-le); known = sym (known-on file at c g r) ∙ h .known }
@@ -103,7 +104,7 @@ counting-start file =
     record { headers = headers-start file; left = omega arith }
 
 module _ {file : List ℕ} {at count : ℕ} (k : Counting file at count) where
-  pub counting-on : {c : ChunkAt} → length file ≤ fileLimit → c .size < 4294967296 → Goes file at c → recordedAt c ≡ true
+  pub counting-on : {c : ChunkAt} → length file ≤ fileLimit → c .size ≤ payloadLimit → Goes file at c → recordedAt c ≡ true
       → Counting file (at + (8 + c .size)) (count + 1)
   unfolding recordCount
   counting-on {c} l b g r =

@@ -10,6 +10,7 @@ use borrow.Author.Tests.{le-leb, lt-leb}
 use lib.Dec.{leb}
 use lib.ListN.{length, drop, length-append, length-take, length-drop}
 use lib.Seq.{drop-at}
+use Rattle.fields.specs.Capped.{u32Max}
 use Rattle.chunk.specs.Chunk.{videoTag, audioTag}
 use Rattle.error.specs.Answer.{Answer, accepted, refused, ask, andThen}
 use Rattle.error.specs.Sentences.{oneOf, RefusedBy}
@@ -52,7 +53,7 @@ module _ (file part : List ℕ) (p : Position) (tag size : ℕ) (e : EndsIn file
       let l : length file ≡ length (e .before) + (8 + length part) = ap length (e .is) ∙ (unfold leBytes in simp length-append (omega arith)) in
       omega arith
 
-  head-is : tag < 4294967296 → isTrailer tag size ≡ false → headAt file (p .cursor) ≡ chunkHead tag size
+  head-is : tag ≤ u32Max → isTrailer tag size ≡ false → headAt file (p .cursor) ≡ chunkHead tag size
   head-is t n = let h = e .held in (λ i. headAt (e .is i) (e .cursor i)) ∙ chunk-suffix (e .before) part tag size (omega arith) (omega arith) n
 
   -- nothing is recorded after it

@@ -5,6 +5,7 @@ use mathlib.Core.List.{List}
 use Prim.Native.Nat.{ℕ, _+_, _<_, _≤_}
 use native.Mathlib.Omega.{arith}
 use lib.ListN.{length}
+use Rattle.chunk.specs.Chunk.{payloadLimit}
 use Rattle.fields.specs.File.{fileLimit}
 use Rattle.prelude.specs.Layout.{preludeLen}
 use Rattle.walk.specs.Walk.{stop, walk, fileWalk}
@@ -32,7 +33,7 @@ pub summing-start : (file : List ℕ) → Summing file preludeLen noneCounted
 summing-start file = record { headers = headers-start file; left = refl }
 
 module _ {file : List ℕ} {at : ℕ} {s : ChunkCounts} (k : Summing file at s) where
-  pub summing-on : {c : ChunkAt} → length file ≤ fileLimit → c .size < 4294967296 → Goes file at c → recordedAt c ≡ true
+  pub summing-on : {c : ChunkAt} → length file ≤ fileLimit → c .size ≤ payloadLimit → Goes file at c → recordedAt c ≡ true
       → Summing file (at + (8 + c .size)) (counted (c .kind) s)
   unfolding countsFrom
   summing-on {c} l b g r =

@@ -2,6 +2,7 @@
 use Prim.Native.Nat.{ℕ, zero, suc, _+_, _/_, _<_}
 use mathlib.Core.List.{List, [], _∷_, _++_}
 use lib.ListN.{length}
+use Rattle.fields.specs.Capped.{u32Max}
 use Rattle.fields.specs.Le.{le, leBytes}
 use Rattle.demuxer.specs.declared.position.Position.{Position}
 use Rattle.walk.specs.Walk.{kindTag}
@@ -27,9 +28,9 @@ entryBytes e =
 
 -- what the three 32-bit fields of a record can hold
 pub record Small (p : Position) : Type 0 where
-  pub cursor-small : p .cursor < 4294967296
-  pub frames-small : p .frames .0 < 4294967296
-  pub blocks-small : p .blocks .0 < 4294967296
+  pub cursor-small : p .cursor ≤ u32Max
+  pub frames-small : p .frames .0 ≤ u32Max
+  pub blocks-small : p .blocks .0 ≤ u32Max
 
 unfoldable pub tableBytes : List ChunkIndexEntry → List ℕ
 tableBytes [] = []

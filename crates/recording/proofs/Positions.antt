@@ -9,6 +9,7 @@ use native.Mathlib.Omega.{arith}
 use borrow.Author.Tests.{leb-true}
 use lib.Dec.{leb}
 use lib.ListN.{length, take, drop, getElem?, length-append}
+use Rattle.chunk.specs.Chunk.{payloadLimit}
 use Rattle.fields.specs.Le.{le, leBytes, Bytes}
 use Rattle.fields.proofs.Laws.{le-lt, bytes-left, bytes-right}
 use Rattle.demuxer.specs.Head.{countOf}
@@ -56,7 +57,7 @@ length-drain p (chunkOf kind payload ∷ cs) = ap length (drain-cons p kind payl
 pub record Here (p : Position) (k : ℕ) (cs : List Chunk) : Type 0 where
   pub kind : Kind
   pub payload : List ℕ
-  pub small : length payload ≤ 4294967295
+  pub small : length payload ≤ payloadLimit
   pub rest : drop k cs ≡ chunkOf kind payload ∷ drop (suc k) cs
   pub next : positionAt p (suc k) cs ≡ passed (positionAt p k cs) kind payload
   pub shown : getElem? (drainAt p cs) k ≡ some (shownAt (positionAt p k cs) kind payload)

@@ -4,7 +4,7 @@ use mathlib.Core.Bool.{true, false}
 use mathlib.Core.List.{List, [], _++_, append-assoc}
 use Prim.Native.Nat.{ℕ, _≤_}
 use lib.ListN.{length}
-use Rattle.chunk.specs.Chunk.{trailerBytes}
+use Rattle.chunk.specs.Chunk.{trailerBytes, payloadLimit}
 use Rattle.fields.specs.File.{fileLimit}
 use Rattle.demuxer.specs.Position.{inRange, InRange}
 use Rattle.demuxer.specs.Read.{packet, End, atTrailer, advanced, readOf}
@@ -22,7 +22,7 @@ module _ (file : List ℕ) (w : Walker) (xs : List ℕ) (fits : length file ≤ 
   abbrev facts : InRange (w .position)
   facts = range-facts (w .position) range
 
-  pub read-chunk : (kind : Kind) (payload ys : List ℕ) → length payload ≤ 4294967295 → w .end ≡ false → w .position .cursor ≡ length xs
+  pub read-chunk : (kind : Kind) (payload ys : List ℕ) → length payload ≤ payloadLimit → w .end ≡ false → w .position .cursor ≡ length xs
       → file ≡ xs ++ (chunkBytes (chunkOf kind payload) ++ ys)
       → readOf file w ≡ record { answer = packet (shownAt (w .position) kind payload); walker = advanced w (passed (w .position) kind payload) }
   unfolding chunkBytes

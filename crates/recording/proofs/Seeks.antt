@@ -11,6 +11,7 @@ use lib.Dec.{eqb}
 use lib.IntN.{ℤ, pos}
 use lib.ListN.{length, getElem?, length-append}
 use lib.Signed.{leZ}
+use Rattle.fields.proofs.Impossible.{impossible}
 use Rattle.error.specs.Answer.{accepted}
 use Rattle.fields.specs.Le.{Bytes}
 use Rattle.fields.proofs.Laws.{bytes-right}
@@ -44,8 +45,8 @@ test-same (suc (suc n)) request p kind payload h = absurd (omega arith)
 same-stamp : (stream : ℕ) (request : ℤ) (p : Position) (kind : Kind) (payload : List ℕ) → stream ≤ 1
     → meets stream request (shownAt p kind payload) ≡ true → shownAt p kind payload .stamp ≡ stampOf stream p
 same-stamp zero request p Frame payload h t = refl
-same-stamp zero request p Sound payload h t = let z : _≡_ {A = ℕ} 0 1 = cc in absurd (omega arith)
-same-stamp (suc zero) request p Frame payload h t = let z : _≡_ {A = ℕ} 0 1 = cc in absurd (omega arith)
+same-stamp zero request p Sound payload h t = impossible cc
+same-stamp (suc zero) request p Frame payload h t = impossible cc
 same-stamp (suc zero) request p Sound payload h t = refl
 same-stamp (suc (suc n)) request p kind payload h t = absurd (omega arith)
 

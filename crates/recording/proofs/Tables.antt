@@ -9,6 +9,8 @@ use borrow.Author.Tests.{le-leb}
 use lib.Dec.{leb}
 use lib.Seq.{take-at}
 use lib.ListN.{length, take, length-append}
+use Rattle.fields.specs.Capped.{u32Max}
+use Rattle.fields.proofs.Impossible.{impossible}
 use Rattle.prelude.specs.Layout.{preludeLen}
 use Rattle.chunk.specs.Chunk.{trailerBytes}
 use Rattle.error.specs.Answer.{Answer, accepted, refused, ask, andThen}
@@ -94,8 +96,8 @@ table-back es f =
 
 -- every record of few enough bytes fits
 pub marks-fit : (p : Position) (cs : List Chunk) → Bytes (chunksBytes cs)
-    → p .cursor + length (chunksBytes cs) < 4294967296 → 8 * p .frames .0 + length (chunksBytes cs) < 34359738368
-    → 8 * p .blocks .0 + length (chunksBytes cs) < 34359738368 → p .samples .0 + 268435456 * length (chunksBytes cs) < 18446744073709551616
+    → p .cursor + length (chunksBytes cs) ≤ u32Max → 8 * p .frames .0 + length (chunksBytes cs) ≤ 8 * u32Max
+    → 8 * p .blocks .0 + length (chunksBytes cs) ≤ 8 * u32Max → p .samples .0 + 268435456 * length (chunksBytes cs) < 18446744073709551616
     → AllFit (marks p cs)
 unfolding marks chunksBytes
 marks-fit p [] y a b c d = tt
@@ -118,7 +120,7 @@ unfolding put
 built-room file table n es true e a =
     let m : length es ≡ n = cc in
     record { entries = es; indexed = e; is = take-at (tableBytes es) _ (entryLen * n) (omega (arith, length-table es)) }
-built-room file table n es false e a = let z : _≡_ {A = ℕ} 0 1 = cc in absurd (omega arith)
+built-room file table n es false e a = impossible cc
 
 pub built-own : (file table : List ℕ) (n : ℕ) → buildOf file table .answer ≡ accepted n → OwnIndex file (take (entryLen * n) (buildOf file table .table))
 unfolding buildOf
@@ -130,4 +132,4 @@ built-own file table n a = go _ refl a
     go : (x : Answer (List ChunkIndexEntry)) → indexOf file ≡ x → builtFrom table (andThen x room) .answer ≡ accepted n
         → OwnIndex file (take (entryLen * n) (builtFrom table (andThen x room) .table))
     go (accepted es) e a = built-room file table n es (leb (entryLen * length es) (length table)) e a
-    go (refused r) e a = let z : _≡_ {A = ℕ} 0 1 = cc in absurd (omega arith)
+    go (refused r) e a = impossible cc

@@ -9,8 +9,9 @@ use borrow.Author.Tests.{ne-eqb}
 use lib.Dec.{eqb, ltb}
 use lib.ListN.{length, length-take}
 use lib.Seq.{take-append-le, drop-append-le}
+use Rattle.fields.proofs.Impossible.{impossible}
 use Rattle.prelude.specs.Layout.{preludeLen}
-use Rattle.chunk.specs.Chunk.{trailerBytes}
+use Rattle.chunk.specs.Chunk.{trailerBytes, payloadLimit}
 use Rattle.error.specs.Answer.{Answer, accepted, refused}
 use Rattle.error.specs.declared.Refusal.{Refusal}
 use Rattle.fields.specs.File.{fileLimit}
@@ -58,7 +59,7 @@ unfolding chunksBytes
 chunks-snoc [] c = append-nil (chunkBytes c)
 chunks-snoc (x ∷ cs) c = rw (chunks-snoc cs c) (sym (append-assoc (chunkBytes x) (chunksBytes cs) (chunkBytes c)))
 
-lengths-snoc : (cs : List Chunk) (kind : Kind) (payload : List ℕ) → Lengths cs → length payload ≤ 4294967295 → Lengths (cs ++ (chunkOf kind payload ∷ []))
+lengths-snoc : (cs : List Chunk) (kind : Kind) (payload : List ℕ) → Lengths cs → length payload ≤ payloadLimit → Lengths (cs ++ (chunkOf kind payload ∷ []))
 lengths-snoc [] kind payload l h = (h, tt)
 lengths-snoc (chunkOf k p ∷ cs) kind payload l h = (l .0, lengths-snoc cs kind payload (l .1) h)
 
@@ -123,7 +124,7 @@ unfolding headerCall
 header-fresh w buf e = header-passed w (length buf) (outcome-accepted (headerQuestions w (length buf)) w buf _ _ e .0)
 
 false-true : {A : Type 0} {b : Bool} → b ≡ true → b ≡ false → A
-false-true p q = let z : _≡_ {A = ℕ} 0 1 = cc in absurd (omega arith)
+false-true p q = impossible cc
 
 module _ (s : Settings) (held : Held s) (fps-positive : 0 < s .fps) (one-channel : s .channels ≡ 1) where
   abbrev preludeWith : ℕ → List ℕ
@@ -229,7 +230,7 @@ module _ (s : Settings) (held : Held s) (fps-positive : 0 < s .fps) (one-channel
             lengths = rw (append-nil, k .none) tt;
           }))
           (unfold sentBy in refl)
-          (λ q. let z : _≡_ {A = ℕ} 0 1 = cc in absurd (omega arith))
+          (λ q. impossible cc)
 
   packet-turn : (w : Writer) (buf : List ℕ) (cs : List Chunk) (payload : List ℕ) (stream : ℕ) → State w buf cs
       → Turn w buf cs (packet payload stream) (packetCall w payload stream buf)
@@ -252,7 +253,7 @@ module _ (s : Settings) (held : Held s) (fps-positive : 0 < s .fps) (one-channel
             lengths = lengths-snoc cs (kindFor stream) payload (k .lengths) (t .passed .short);
           }))
           (packet-sent stream payload (t .passed .known))
-          (λ q. let z : _≡_ {A = ℕ} 0 1 = cc in absurd (omega arith))
+          (λ q. impossible cc)
 
   -- a file of the prelude, the chunks and the trailer, patched
   closed : (w : Writer) (buf file : List ℕ) (cs : List Chunk) → Going w buf cs → file ≡ patchRunLength w (fileOf w buf ++ trailerBytes)

@@ -3,6 +3,7 @@ use mathlib.Core.Path.{_≡_}
 use mathlib.Core.List.{List, [], _∷_, List·Memᴰ}
 use Prim.Native.Nat.{ℕ, _<_}
 use lib.ListN.{take}
+use Rattle.fields.specs.Capped.{u32Max}
 use Rattle.error.specs.Answer.{Answer, accepted, refused}
 use Rattle.demuxer.specs.Packet.{Shown}
 use Rattle.muxer.specs.Writer.{fresh, Outcome, headerCall, packetCall, trailerCall}
@@ -62,10 +63,10 @@ sentIn (p ∷ ps) = record { stream = p .stream; payload = p .payload } ∷ sent
 
 -- settings that their fields hold, as those of code always are
 pub record Held (s : Settings) : Type 0 where
-  pub width-held : s .width < 4294967296
-  pub height-held : s .height < 4294967296
-  pub fps-held : s .fps < 4294967296
-  pub rate-held : s .rate < 4294967296
+  pub width-held : s .width ≤ u32Max
+  pub height-held : s .height ≤ u32Max
+  pub fps-held : s .fps ≤ u32Max
+  pub rate-held : s .rate ≤ u32Max
 
 -- a header and a trailer are among the accepted calls, and the settings have "fps above 0 and one channel"
 pub record Closed (s : Settings) (said : List WriteCall) : Type 0 where

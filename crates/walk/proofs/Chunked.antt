@@ -5,7 +5,7 @@ use mathlib.Core.List.{List, [], _∷_, _++_, append-assoc}
 use Prim.Native.Nat.{ℕ, _+_, _-_, _^_, _≤_, _<_}
 use native.Mathlib.Omega.{arith}
 use lib.ListN.{length, length-append}
-use Rattle.chunk.specs.Chunk.{trailerBytes}
+use Rattle.chunk.specs.Chunk.{trailerBytes, payloadLimit}
 use Rattle.fields.specs.Le.{leBytes}
 use Rattle.demuxer.specs.Head.{isTrailer, chunkHead, trailerTag, trailerSize, headAt}
 use Rattle.demuxer.specs.Read.{payloadAt}
@@ -42,7 +42,7 @@ on-head file at Frame size = refl
 on-head file at Sound size = refl
 
 -- one chunk, after xs and before ys
-chunk-walked : (xs ys payload : List ℕ) (kind : Kind) → length payload ≤ 4294967295
+chunk-walked : (xs ys payload : List ℕ) (kind : Kind) → length payload ≤ payloadLimit
     → walk (xs ++ (leBytes 4 (kindTag kind) ++ (leBytes 4 (length payload) ++ (payload ++ ys)))) (length xs)
     ≡ chunk kind payload 0
     (walk (xs ++ (leBytes 4 (kindTag kind) ++ (leBytes 4 (length payload) ++ (payload ++ ys)))) (length xs + (8 + length payload)))

@@ -2,6 +2,8 @@
 use mathlib.Core.Path.{_≡_}
 use Prim.Native.Nat.{ℕ, _+_, _*_, _≤_, _<_}
 use native.Mathlib.Omega.{arith}
+use Rattle.fields.specs.Capped.{u32Max}
+use Rattle.chunk.specs.Chunk.{payloadLimit}
 use Rattle.fields.specs.File.{fileLimit}
 use Rattle.demuxer.specs.Position.{start, InRange, pastFrame, pastSound}
 use Rattle.demuxer.specs.declared.position.Position.{Position}
@@ -21,9 +23,9 @@ module _ (p : Position) (w : Walked p) (l : p .cursor + 8 ≤ fileLimit) where
       }
 
   -- and the position after a chunk is one of them
-  pub walked-frame : (size : ℕ) → size < 4294967296 → Walked (pastFrame p size)
+  pub walked-frame : (size : ℕ) → size ≤ payloadLimit → Walked (pastFrame p size)
   walked-frame size b = record { cursor-le = omega arith; chunks-le = omega (arith, w .chunks-le); samples-le = w .samples-le }
 
-  pub walked-sound : (size count : ℕ) → size < 4294967296 → count < 4294967296 → Walked (pastSound p size count)
+  pub walked-sound : (size count : ℕ) → size ≤ payloadLimit → count ≤ u32Max → Walked (pastSound p size count)
   walked-sound size count b n =
       record { cursor-le = omega arith; chunks-le = omega (arith, w .chunks-le); samples-le = omega (arith, w .samples-le) }

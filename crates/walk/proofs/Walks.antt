@@ -9,6 +9,7 @@ use native.Mathlib.Omega.{arith}
 use borrow.Author.Tests.{le-leb, lt-leb}
 use lib.Dec.{leb}
 use lib.ListN.{length, length-take, length-drop}
+use Rattle.fields.proofs.Impossible.{impossible}
 use Rattle.demuxer.specs.Head.{headAt, countOf}
 use Rattle.demuxer.specs.Read.{payloadAt}
 use Rattle.demuxer.specs.declared.head.Head.{Head}
@@ -35,13 +36,13 @@ head-there file at h =
 
 -- and so of the trailer and of each kind
 pub trailer-there : (file : List ℕ) (at : ℕ) → headAt file at ≡ head.Trailer → at + 8 ≤ length file
-trailer-there file at e = head-there file at (λ x. let z : _≡_ {A = ℕ} 0 1 = cc in omega arith)
+trailer-there file at e = head-there file at (λ x. impossible cc)
 
 pub video-there : (file : List ℕ) (at size : ℕ) → headAt file at ≡ head.Video size → at + 8 ≤ length file
-video-there file at size e = head-there file at (λ x. let z : _≡_ {A = ℕ} 0 1 = cc in omega arith)
+video-there file at size e = head-there file at (λ x. impossible cc)
 
 pub audio-there : (file : List ℕ) (at size : ℕ) → headAt file at ≡ head.Audio size → at + 8 ≤ length file
-audio-there file at size e = head-there file at (λ x. let z : _≡_ {A = ℕ} 0 1 = cc in omega arith)
+audio-there file at size e = head-there file at (λ x. impossible cc)
 
 -- past the file's end nothing stands
 pub step-out : (file : List ℕ) (at : ℕ) → length file < at + 8 → stepAt file at ≡ step.Stop RanOut

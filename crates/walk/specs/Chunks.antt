@@ -2,6 +2,7 @@
 use Prim.Native.Nat.{ℕ, _≤_}
 use mathlib.Core.List.{List, [], _∷_, _++_}
 use lib.ListN.{length}
+use Rattle.chunk.specs.Chunk.{payloadLimit}
 use Rattle.fields.specs.Le.{leBytes}
 use Rattle.walk.specs.Walk.{kindTag, Walk, stop, chunk}
 use Rattle.walk.specs.declared.Kind.{Kind}
@@ -22,7 +23,7 @@ chunksBytes (c ∷ cs) = chunkBytes c ++ chunksBytes cs
 -- a length is a u32
 abbrev pub Lengths : List Chunk → Type 0
 Lengths [] = Unit
-Lengths (chunkOf kind payload ∷ cs) = (length payload ≤ 4294967295) × Lengths cs
+Lengths (chunkOf kind payload ∷ cs) = (length payload ≤ payloadLimit) × Lengths cs
 
 -- the walk over whole chunks and the trailer, with n bytes after it
 unfoldable pub walkOf : List Chunk → ℕ → Walk

@@ -1,6 +1,8 @@
 -- Steps on the way: what private functions promise each other. Nothing here need be believed. Assumes nothing.
 use Prim.Native.Nat.{ℕ, _+_, _*_, _≤_}
 use mathlib.Core.List.{List}
+use Rattle.fields.specs.Capped.{u32Max}
+use Rattle.chunk.specs.Chunk.{payloadLimit}
 use Rattle.fields.specs.File.{fileLimit}
 use Rattle.prelude.specs.Layout.{preludeLen}
 use Rattle.demuxer.specs.Head.{countOf}
@@ -16,6 +18,6 @@ pastAt file p c = pastBy p (c .kind) (c .size) (countOf (payloadAt file (p .curs
 -- what holds of every position of a walk from the prelude's end: a header stood within the limit, each chunk took 8 bytes, each block had at
 -- most a u32 of samples
 pub record Walked (p : Position) : Type 0 where
-  pub cursor-le : p .cursor ≤ fileLimit + 4294967295
+  pub cursor-le : p .cursor ≤ fileLimit + payloadLimit
   pub chunks-le : preludeLen + 8 * (p .frames .0 + p .blocks .0) ≤ p .cursor
-  pub samples-le : p .samples .0 ≤ 4294967295 * p .blocks .0
+  pub samples-le : p .samples .0 ≤ u32Max * p .blocks .0
