@@ -7,7 +7,7 @@ ghost use mathlib.Core.Path.{_≡_};
 ghost use mathlib.Core.List.{_∷_};
 ghost use Rattle.demuxer.specs.Packet.{ticks};
 ghost use Rattle.error.specs.Refusal.{said};
-ghost use Rattle.words.specs.Out.{Says, checked, durationWord, preludeWords, packetWords};
+ghost use Rattle.words.specs.Out.{Says, checked, shownDuration, preludeWords, packetWords};
 
 // The answer of a call that only checks: gives its number, and leaves its place in `out`.
 pub fn result_out(result: AmvResult, out: &mut [u64; 1]) -> u32
@@ -27,7 +27,7 @@ pub fn result_out(result: AmvResult, out: &mut [u64; 1]) -> u32
 
 // The word of a packet's duration, 0 for none.
 fn duration_word(duration: PacketDuration) -> u64
-    ensures { λ r. ⌜ r ≡ durationWord duration ⌝ }
+    ensures { λ r. ⌜ r ≡ shownDuration (ticks duration) ⌝ }
 {
     match duration {
         PacketDuration::Ticks(ticks) => ticks,
