@@ -1,4 +1,5 @@
--- The reader as the laws of `Walks` take it: a struct behind a reference whose walker changes, and whose file can be had twice.
+-- The reader as the laws of `Walks` take it: a struct behind a reference whose walker changes, and whose file can be had twice; and the methods that
+-- ask its walker alone, all by one law (`asks-meets`). Assumes nothing.
 use mathlib.Core.Path.{_≡_, refl}
 use Prim.Native.Nat.{ℕ}
 use mathlib.Core.List.{List, [], _∷_}
@@ -76,12 +77,17 @@ module _ {M : Type 1} (𝓤 : URA M) (H : Heap 𝓤) (A : Atoms 𝓤) (W : Given
   }
 
   -- what a reader owns, and what its file owns beside it
-  pub file-twice : (d : AmvDemuxer) → ent 𝓤 (mean 𝓤 H A (‵ (T.the-row a .own d (readerVal a d ∷ [])))) (mean 𝓤 H A (‵ (ownAt (T.the-type a .parts) (T′.the-laws a) 0 (d .file)) ⊛ ‵ (T.the-row a .own d (readerVal a d ∷ []))))
+  pub file-twice : (d : AmvDemuxer)
+      → ent 𝓤 (mean 𝓤 H A (‵ (T.the-row a .own d (readerVal a d ∷ []))))
+      (mean 𝓤 H A (‵ (ownAt (T.the-type a .parts) (T′.the-laws a) 0 (d .file)) ⊛ ‵ (T.the-row a .own d (readerVal a d ∷ []))))
   file-twice d =
       let Own : Fml = T.the-row a .own d (readerVal a d ∷ []) in
       qed W (‵ Own ∷ []) ∵ use1 W (‵ Own ⊛ ‵ Own) (LL.copy (T.the-type a) (T′.the-copy a) 𝓤 H A W .twice d (readerVal a d ∷ [])) $ split ! $
-      use1 W (given (readerVal a d ∷ [] ≡ readerVal a d ∷ []) (‵ (all-own (T.the-type a .parts) (T′.the-laws a) (d .file, (d .walker, tt))))) (own-open 𝓤 H A W (T.the-type a) (T′.the-laws a) (d .file, (d .walker, tt)) (readerVal a d)) $
-      learn ! (λ _. use1 W (‵ (ownAt (T.the-type a .parts) (T′.the-laws a) 0 (d .file)) ⊛ ‵ (rest (T.the-type a .parts) (T′.the-laws a) 0 (d .file, (d .walker, tt)))) (own-out 𝓤 H A W (T.the-type a .parts) (T′.the-laws a) 0 (d .file, (d .walker, tt))) $ split ! $
+      use1 W (given (readerVal a d ∷ [] ≡ readerVal a d ∷ []) (‵ (all-own (T.the-type a .parts) (T′.the-laws a) (d .file, (d .walker, tt)))))
+      (own-open 𝓤 H A W (T.the-type a) (T′.the-laws a) (d .file, (d .walker, tt)) (readerVal a d)) $
+      learn ! (λ _. use1 W (‵ (ownAt (T.the-type a .parts) (T′.the-laws a) 0 (d .file))
+      ⊛ ‵ (rest (T.the-type a .parts) (T′.the-laws a) 0 (d .file, (d .walker, tt))))
+      (own-out 𝓤 H A W (T.the-type a .parts) (T′.the-laws a) 0 (d .file, (d .walker, tt))) $ split ! $
       keep ! (0 ∷ 2 ∷ []) $ done !)
 
 -- a reader is made of a file and a walker, and what the file owns is kept
@@ -94,7 +100,8 @@ module _ {M : Type 1} (𝓤 : URA M) (H : Heap 𝓤) (A : Atoms 𝓤) (W : Given
 
   pub makes-reader : Is K.the-row w (walkerVal w ∷ []) → ent 𝓤 (mean 𝓤 H A OwnFile) (mean 𝓤 H A (‵ (T.the-row a .own made (readerVal a made ∷ [])) ⊛ OwnFile))
   makes-reader isw =
-      qed W (OwnFile ∷ []) ∵ use1 W (OwnFile ⊛ OwnFile) (shr-slice-copy 𝓤 H A W (a .mir) (a .lft) u8 .twice s _) $ split ! $ nothing ! $ owned ! K.the-row (Is K.the-row) (LL.makes K.the-type K′.the-plain 𝓤 H A) w _ isw $ fjoin ! $ move ! (1 ∷ 0 ∷ []) $ fjoin ! $
+      qed W (OwnFile ∷ []) ∵ use1 W (OwnFile ⊛ OwnFile) (shr-slice-copy 𝓤 H A W (a .mir) (a .lft) u8 .twice s _) $ split ! $ nothing ! $
+      owned ! K.the-row (Is K.the-row) (LL.makes K.the-type K′.the-plain 𝓤 H A) w _ isw $ fjoin ! $ move ! (1 ∷ 0 ∷ []) $ fjoin ! $
       use1 W (‵ (T.the-row a .own made (readerVal a made ∷ []))) (own-shut 𝓤 H A W (T.the-type a) (T′.the-laws a) (s, (w, tt))) $ done !
 
 -- ---- a method with `&self` that asks the walker alone, from the function that it calls on it: what that answers, by Φ, the method answers
@@ -156,28 +163,36 @@ module _ (RN : RattleType) where
       Said t = Φ t (h .walker)
 
       takes : ent 𝓤 Start (mean 𝓤 H A (‵ (flft κ q) ⊛ Ref ⊛ token))
-      takes = qed W ((‵ (flft κ q) ⊛ token) ∷ ‵ (owns (ShrRef (named 0) κ (T.the-row α) ∷ []) (x, tt) (vptr b o ∷ [], tt)) ∷ []) ∵ split ! $ frame ! $ move ! (1 ∷ []) $ fsplit ! $ frame ! $ drop ! $ done !
+      takes = qed W ((‵ (flft κ q) ⊛ token) ∷ ‵ (owns (ShrRef (named 0) κ (T.the-row α) ∷ []) (x, tt) (vptr b o ∷ [], tt)) ∷ []) ∵ split ! $ frame ! $
+          move ! (1 ∷ []) $ fsplit ! $ frame ! $ drop ! $ done !
 
       gives : Is (T.the-row α) h (readerVal α h ∷ []) → ent 𝓤 (mean 𝓤 H A (Own ⊛ token)) (mean 𝓤 H A (raw (Asked .pre to) ⊛ Own ⊛ token))
       gives is =
-          qed W (Own ∷ token ∷ []) ∵ nothing ! $ owned ! K.the-row (Is K.the-row) (readerHolder 𝓤 H A W α .part-made) (h .walker) _ (LL.owed (T.the-type α) (T′.the-laws α) h _ is .1 .0) $ fjoin ! $ nothing ! $
+          qed W (Own ∷ token ∷ []) ∵ nothing ! $
+          owned ! K.the-row (Is K.the-row) (readerHolder 𝓤 H A W α .part-made) (h .walker) _ (LL.owed (T.the-type α) (T′.the-laws α) h _ is .1 .0) $
+          fjoin ! $ nothing ! $
           use2 W (raw (Asked .pre to)) (unasked 𝓤 H A W _) $ frame ! $ done !
 
-      ends : (t : RN .Denot) → ent 𝓤 (mean 𝓤 H A (‵ (RN .own t (ret .val t ∷ [])) ⊛ ‵ (flft κ q) ⊛ Ref ⊛ given (Said t) (raw (emp 𝓤)) ⊛ token)) (Post (ret .val t))
+      ends : (t : RN .Denot)
+          → ent 𝓤 (mean 𝓤 H A (‵ (RN .own t (ret .val t ∷ [])) ⊛ ‵ (flft κ q) ⊛ Ref ⊛ given (Said t) (raw (emp 𝓤)) ⊛ token)) (Post (ret .val t))
       ends t =
           qed W (‵ (RN .own t (ret .val t ∷ [])) ∷ ‵ (flft κ q) ∷ Ref ∷ given (Said t) (raw (emp 𝓤)) ∷ token ∷ []) ∵ move ! (3 ∷ []) $ learn ! (λ e. drop ! $
-          suffices ! _ (ends-at 𝓤 H A asksReader stayed saysOfReader W (((κ, (κ′, tt)), (q, (q′, tt)), bounds, (x, tt), (vptr b o ∷ [], tt)), tt) (ret .val t) t (tt, tt) (tt, tt)) $ says ! e $
+          suffices ! _ (ends-at 𝓤 H A asksReader stayed saysOfReader W (((κ, (κ′, tt)), (q, (q′, tt)), bounds, (x, tt), (vptr b o ∷ [], tt)), tt) (ret .val t) t
+          (tt, tt) (tt, tt)) $ says ! e $
           move ! (1 ∷ 3 ∷ []) $ join ! $ frame ! $ nothing ! $ move ! (2 ∷ 0 ∷ []) $ fjoin ! $ frame ! $ done !)
 
       pub asks : ent 𝓤 Start (WpFn 𝓤 H C Λ (asksFn (ret .mir) f) (vptr b o ∷ []) Post)
       asks =
-          views 𝓤 H A W C Λ _ (vptr b o ∷ []) f (walkerVal (h .walker) ∷ []) (named 0) κ q b o γ (T.the-row α) RN (readerCell α) (LL.copy (T.the-type α) (T′.the-copy α) 𝓤 H A W) ret h
+          views 𝓤 H A W C Λ _ (vptr b o ∷ []) f (walkerVal (h .walker) ∷ []) (named 0) κ q b o γ (T.the-row α) RN (readerCell α)
+          (LL.copy (T.the-type α) (T′.the-copy α) 𝓤 H A W) ret h
           (runs-view 𝓤 H A W C Λ fm 2 ((1, 0) ∷ []) _ (ret .mir) K′.mir _ _ 1 f _ refl b o (tt, tt) _ (RN .Denot) (ret .val))
-          Start token (raw (Asked .pre to)) token (Asked .post to) (λ t. given (Said t) (raw (emp 𝓤))) Post (λ v. W .laws .⇛-trans _) takes gives (known to) (told 𝓤 H A W asksWalker saysOfWalker to Said (λ t e. id⊢ 𝓤 _)) ends
+          Start token (raw (Asked .pre to)) token (Asked .post to) (λ t. given (Said t) (raw (emp 𝓤))) Post (λ v. W .laws .⇛-trans _) takes gives (known to)
+          (told 𝓤 H A W asksWalker saysOfWalker to Said (λ t e. id⊢ 𝓤 _)) ends
 
     module _ (W : Given 𝓤 H A) (ret : Returned 𝓤 H A RN) (𝓣 : Tables 𝓤 H) (f : Name) (known : Triple 𝓤 (𝓣 .C f) Asked) where
       pub asks-meets : Meets 𝓤 H A (asksReader .signature) (WpFn 𝓤 H (𝓣 .C) (𝓣 .Λ) (asksFn (ret .mir) f)) (closing 𝓤 H A asksReader saysOfReader)
       asks-meets =
           meets-by 𝓤 H A W 𝓣 asksReader stayed (goes-none-ref 𝓤 H A W 2 (0 ∷ []) tt (plain (λ κs. T.the-row (namedLft 2 1 tt κs))) yes, tt) saysOfReader _
           (λ κs. (ptr-vals, tt)) (λ κs. (shr-tells (named 0) (κs .0) (T.the-row (namedLft 2 1 tt κs)), tt))
-          (λ κs qs bounds a g are. asks W ret (𝓣 .C) (𝓣 .Λ) (fmOf 𝓤 H (W .laws) 𝓣) f known (κs .0) (κs .1 .0) (qs .0) (qs .1 .0) bounds (a .0 .ptr .0) (a .0 .ptr .1) (a .0 .name) (a .0 .now))
+          (λ κs qs bounds a g are. asks W ret (𝓣 .C) (𝓣 .Λ) (fmOf 𝓤 H (W .laws) 𝓣) f known (κs .0) (κs .1 .0) (qs .0) (qs .1 .0) bounds (a .0 .ptr .0)
+          (a .0 .ptr .1) (a .0 .name) (a .0 .now))

@@ -1,4 +1,5 @@
--- The writer as the laws of `Walks` take it, and a call that writes and takes the buffer alone.
+-- The writer as the laws of `Walks` take it; a method that writes and takes the buffer alone, from the call by value (`writes-meets`), and back, a
+-- function that lends a writer in a local to such a method (`lent-meets`). Assumes nothing.
 use mathlib.Core.Path.{_≡_, refl}
 use Prim.Native.Nat.{ℕ}
 use mathlib.Core.List.{List, [], _∷_}
@@ -12,7 +13,35 @@ use base.Fml.{GName, Lft, Share, ftrue, flft, fres}
 use prog.Wp.{Heap, Calls, Loops, WpFn, Tables}
 use ghost.Atoms.{Atoms, sem}
 use contract.Monad.{fact}
-use types.Kit.{Given, Item, ‵, raw, _⊛_, some, mean, given, _$_, _∵_, !, qed, move, keep, drop, use2, split, join, pick, learn, check, fsplit, feqL, fjoin, suffices, frame, done}
+use types.Kit.{
+  Given,
+  Item,
+  ‵,
+  raw,
+  _⊛_,
+  some,
+  mean,
+  given,
+  _$_,
+  _∵_,
+  !,
+  qed,
+  move,
+  keep,
+  drop,
+  use2,
+  split,
+  join,
+  pick,
+  learn,
+  check,
+  fsplit,
+  feqL,
+  fjoin,
+  suffices,
+  frame,
+  done,
+}
 use sound.WpLaws.{FmC, fmOf}
 use denote.RattleType.{owns}
 use denote.Laws.{Is, shows}
@@ -68,11 +97,21 @@ module _ {M : Type 1} (𝓤 : URA M) (H : Heap 𝓤) (A : Atoms 𝓤) (W : Given
   }
 
   abbrev pub resultReturned : Returned 𝓤 H A N.the-row
-  resultReturned = record { mir = N′.mir; val = EL.val N.the-type N′.the-laws; tells = EL.tells N.the-type N′.the-laws; typed = λ r u is. EL.lawful N.the-type N′.the-laws 𝓤 H A W tt .typed r _ is .0 }
+  resultReturned = record {
+    mir = N′.mir;
+    val = EL.val N.the-type N′.the-laws;
+    tells = EL.tells N.the-type N′.the-laws;
+    typed = λ r u is. EL.lawful N.the-type N′.the-laws 𝓤 H A W tt .typed r _ is .0;
+  }
 
   abbrev pub wrote : Answered 𝓤 H A G.the-row N.the-row K.the-row stateVal
   wrote = record {
-    whole = record { mir = G′.mir; val = LL.val G.the-type G′.the-laws; tells = LL.tells G.the-type G′.the-laws; typed = λ t v is. LL.lawful G.the-type G′.the-laws 𝓤 H A W .typed t _ is .0 };
+    whole = record {
+      mir = G′.mir;
+      val = LL.val G.the-type G′.the-laws;
+      tells = LL.tells G.the-type G′.the-laws;
+      typed = λ t v is. LL.lawful G.the-type G′.the-laws 𝓤 H A W .typed t _ is .0;
+    };
     answer = λ t. t .result;
     answer-val = EL.val N.the-type N′.the-laws;
     answer-made = EL.makes N.the-type N′.the-plain 𝓤 H A;
@@ -83,7 +122,12 @@ module _ {M : Type 1} (𝓤 : URA M) (H : Heap 𝓤) (A : Atoms 𝓤) (W : Given
 -- ---- a call that takes the buffer alone, from the call by value: both have the outcome that `call` says
 abbrev byValue : Ended
 byValue = record {
-  signature = record { lifetimes = 1; outlives = []; params = plain (λ _. K.the-row) ∷ SliceRefMutOf (0 ∷ []) tt (plain (λ _. u8)) (λ _. tt) ∷ []; result = plain (λ _. G.the-row) };
+  signature = record {
+    lifetimes = 1;
+    outlives = [];
+    params = plain (λ _. K.the-row) ∷ SliceRefMutOf (0 ∷ []) tt (plain (λ _. u8)) (λ _. tt) ∷ [];
+    result = plain (λ _. G.the-row);
+  };
   kept = (yes, (yes, tt));
 }
 
@@ -122,7 +166,11 @@ module _ {M : Type 1} (𝓤 : URA M) (H : Heap 𝓤) (A : Atoms 𝓤) (call : Wr
   saysByValue κs a = record { ghost = Unit {0}; requires = λ _. emp 𝓤; ensures = λ _ r e. fact 𝓤 (Meets (call (a .0) (now (a .1 .0))) r (now (e .1 .0))) }
 
   abbrev saysByRef : Clauses 𝓤 byRef
-  saysByRef κs a = record { ghost = Unit {0}; requires = λ _. emp 𝓤; ensures = λ _ r e. fact 𝓤 (Writes (call (now (a .0) .writer) (now (a .1 .0))) r (now (e .0)) (now (e .1 .0))) }
+  saysByRef κs a = record {
+    ghost = Unit {0};
+    requires = λ _. emp 𝓤;
+    ensures = λ _ r e. fact 𝓤 (Writes (call (now (a .0) .writer) (now (a .1 .0))) r (now (e .0)) (now (e .1 .0)));
+  }
 
   abbrev pub ByValue : Contract 𝓤
   ByValue = tripleOf 𝓤 H A (byValue .signature) (closing 𝓤 H A byValue saysByValue)
@@ -163,15 +211,19 @@ module _ {M : Type 1} (𝓤 : URA M) (H : Heap 𝓤) (A : Atoms 𝓤) (call : Wr
     Said t zs = Meets (call (h .writer) (now x)) t zs
 
     takes : ent 𝓤 Start (mean 𝓤 H A (‵ (flft κ q) ⊛ ‵ (MutRef (named 0) κ T.the-row .own ref (vptr b o ∷ [])) ⊛ token ⊛ Rest))
-    takes = qed W ((‵ (flft κ q) ⊛ token) ∷ ‵ (owns (MutRef (named 0) κ T.the-row ∷ MutSlice (named 1) κ′ u8 ∷ []) a vals) ∷ []) ∵ split ! $ frame ! $ move ! (1 ∷ []) $ fsplit ! $ frame ! $ move ! (1 ∷ 0 ∷ []) $ done !
+    takes = qed W ((‵ (flft κ q) ⊛ token) ∷ ‵ (owns (MutRef (named 0) κ T.the-row ∷ MutSlice (named 1) κ′ u8 ∷ []) a vals) ∷ []) ∵ split ! $ frame ! $
+        move ! (1 ∷ []) $ fsplit ! $ frame ! $ move ! (1 ∷ 0 ∷ []) $ done !
 
     gives : Is T.the-row h (writerVal h ∷ []) → ent 𝓤 (mean 𝓤 H A (Own ⊛ token ⊛ Rest)) (mean 𝓤 H A (raw (ByValue .pre to) ⊛ Own ⊛ ‵ ftrue))
     gives is =
-        qed W (Own ∷ token ∷ Rest ∷ []) ∵ move ! (2 ∷ []) $ owned ! K.the-row (Is K.the-row) (writerHolder 𝓤 H A W .part-made) (h .writer) _ (LL.owed T.the-type T′.the-laws h _ is .0) $ fjoin ! $
+        qed W (Own ∷ token ∷ Rest ∷ []) ∵ move ! (2 ∷ []) $
+        owned ! K.the-row (Is K.the-row) (writerHolder 𝓤 H A W .part-made) (h .writer) _ (LL.owed T.the-type T′.the-laws h _ is .0) $ fjoin ! $
         move ! (2 ∷ 0 ∷ []) $ use2 W (raw (ByValue .pre to)) (unasked 𝓤 H A W _) $ frame ! $ nothing ! $ move ! (1 ∷ 0 ∷ []) $ done !
 
-    fins : (ws : Lasts byValue (κ′, tt) (h .writer, (x, tt))) → ent 𝓤 (sem 𝓤 H A (lasts byValue (κ′, tt) (h .writer, (x, tt)) ws)) (mean 𝓤 H A (Left x (ws .1 .0)))
-    fins ws = qed W (‵ (lasts byValue (κ′, tt) (h .writer, (x, tt)) ws) ∷ []) ∵ fsplit ! $ drop ! $ fsplit ! $ fsplit ! $ move ! (1 ∷ []) $ feqL ! (λ l. check ! l $ keep ! (0 ∷ []) $ done !)
+    fins : (ws : Lasts byValue (κ′, tt) (h .writer, (x, tt)))
+        → ent 𝓤 (sem 𝓤 H A (lasts byValue (κ′, tt) (h .writer, (x, tt)) ws)) (mean 𝓤 H A (Left x (ws .1 .0)))
+    fins ws = qed W (‵ (lasts byValue (κ′, tt) (h .writer, (x, tt)) ws) ∷ []) ∵ fsplit ! $ drop ! $ fsplit ! $ fsplit ! $ move ! (1 ∷ []) $
+        feqL ! (λ l. check ! l $ keep ! (0 ∷ []) $ done !)
 
     abbrev after : Wrote → Item 𝓤
     after t = some (λ (zs : List ℕ). given (Said t zs) (Left x zs ⊛ raw (mean 𝓤 H A token)))
@@ -179,17 +231,24 @@ module _ {M : Type 1} (𝓤 : URA M) (H : Heap 𝓤) (A : Atoms 𝓤) (call : Wr
     abbrev answer : Wrote → Val
     answer t = wrote 𝓤 H A W .answer-val (t .result)
 
-    ends : (t : Wrote) → ent 𝓤 (mean 𝓤 H A (‵ (N.the-row .own (t .result) (answer t ∷ [])) ⊛ ‵ (flft κ q) ⊛ ‵ (MutRef (named 0) κ T.the-row .own (at-last ref (withState h (t .writer))) (vptr b o ∷ [])) ⊛ after t ⊛ ‵ ftrue)) (Post (answer t))
+    ends : (t : Wrote)
+        → ent 𝓤 (mean 𝓤 H A (‵ (N.the-row .own (t .result) (answer t ∷ [])) ⊛ ‵ (flft κ q)
+        ⊛ ‵ (MutRef (named 0) κ T.the-row .own (at-last ref (withState h (t .writer))) (vptr b o ∷ [])) ⊛ after t ⊛ ‵ ftrue)) (Post (answer t))
     ends t =
-        qed W (‵ (N.the-row .own (t .result) (answer t ∷ [])) ∷ ‵ (flft κ q) ∷ ‵ (MutRef (named 0) κ T.the-row .own (at-last ref (withState h (t .writer))) (vptr b o ∷ [])) ∷ after t ∷ ‵ ftrue ∷ []) ∵ move ! (3 ∷ []) $ pick ! (λ zs. learn ! (λ e. split ! $ learn ! (λ l.
-        suffices ! _ (ends-at 𝓤 H A byRef stayed saysByRef W (((κ, (κ′, tt)), (q, (q′, tt)), tt, a, vals), tt) (answer t) (t .result) (withState h (t .writer), (zs, tt)) (tt, (l, tt))) $ says ! e $
+        qed W (‵ (N.the-row .own (t .result) (answer t ∷ [])) ∷ ‵ (flft κ q)
+        ∷ ‵ (MutRef (named 0) κ T.the-row .own (at-last ref (withState h (t .writer))) (vptr b o ∷ [])) ∷ after t ∷ ‵ ftrue ∷ []) ∵ move ! (3 ∷ []) $
+        pick ! (λ zs. learn ! (λ e. split ! $ learn ! (λ l.
+        suffices ! _ (ends-at 𝓤 H A byRef stayed saysByRef W (((κ, (κ′, tt)), (q, (q′, tt)), tt, a, vals), tt) (answer t) (t .result)
+        (withState h (t .writer), (zs, tt)) (tt, (l, tt))) $ says ! e $
         -- [the last bytes; the token; the answer; the token of `self`; the reference; true]
         move ! (3 ∷ 1 ∷ []) $ join ! $ frame ! $ move ! (0 ∷ 3 ∷ []) $ fjoin ! $ move ! (2 ∷ 0 ∷ []) $ fjoin ! $ frame ! $ done !)))
 
     pub writes : ent 𝓤 Start (WpFn 𝓤 H C Λ (writesFn f) (vptr b o ∷ vx ∷ []) Post)
     writes =
-        changes 𝓤 H A W C Λ (writesFn f) (vptr b o ∷ vx ∷ []) f (stateVal (h .writer) ∷ vx ∷ []) (named 0) κ q b o γ T.the-row K.the-row G.the-row N.the-row (writerHolder 𝓤 H A W) (wrote 𝓤 H A W) h
-        (runs-buffer 𝓤 H A W C Λ fm _ _ _ _ _ _ _ _ 0 f _ refl b o (tt, tt) _ Wrote answer (λ t. stateVal (t .writer)) _ _ _ _ _ _ (x .ptr .0) (x .ptr .1) (vint w64 (length (x .now)))
+        changes 𝓤 H A W C Λ (writesFn f) (vptr b o ∷ vx ∷ []) f (stateVal (h .writer) ∷ vx ∷ []) (named 0) κ q b o γ T.the-row K.the-row G.the-row N.the-row
+        (writerHolder 𝓤 H A W) (wrote 𝓤 H A W) h
+        (runs-buffer 𝓤 H A W C Λ fm _ _ _ _ _ _ _ _ 0 f _ refl b o (tt, tt) _ Wrote answer (λ t. stateVal (t .writer)) _ _ _ _ _ _ (x .ptr .0) (x .ptr .1)
+        (vint w64 (length (x .now)))
         (tt, (tt, (record { fits = room .0 }, tt))) (tt, tt) (tt, (tt, (record { fits = room .0 }, tt))))
         Start (token ⊛ Rest) (raw (ByValue .pre to)) (‵ ftrue) (ByValue .post to) after Post (λ v. W .laws .⇛-trans _) takes gives (known to)
         (told-last 𝓤 H A W byValue saysByValue to (λ ws. ws .1 .0) (Left x) Said fins (λ t ws. id⊢ 𝓤 _)) ends
@@ -197,9 +256,11 @@ module _ {M : Type 1} (𝓤 : URA M) (H : Heap 𝓤) (A : Atoms 𝓤) (call : Wr
   module _ (W : Given 𝓤 H A) (𝓣 : Tables 𝓤 H) (f : Name) (known : Triple 𝓤 (𝓣 .C f) ByValue) where
     pub writes-meets : Triples 𝓤 H A (byRef .signature) (WpFn 𝓤 H (𝓣 .C) (𝓣 .Λ) (writesFn f)) (closing 𝓤 H A byRef saysByRef)
     writes-meets =
-        meets-by 𝓤 H A W 𝓣 byRef stayed (goes-ref 𝓤 H A W 2 0 tt (plain (λ _. T.the-row)), (goes-gave-slice 𝓤 H A W 2 1 tt (plain (λ _. u8)), tt)) saysByRef (writesFn f)
+        meets-by 𝓤 H A W 𝓣 byRef stayed (goes-ref 𝓤 H A W 2 0 tt (plain (λ _. T.the-row)), (goes-gave-slice 𝓤 H A W 2 1 tt (plain (λ _. u8)), tt)) saysByRef
+        (writesFn f)
         (λ κs. (ptr-vals, (slice-vals, tt))) (λ κs. (mut-tells (named 0) (κs .0) T.the-row, (mut-slice-tells (named 1) (κs .1 .0) u8, tt)))
-        (λ κs qs bounds a g are. writes W (𝓣 .C) (𝓣 .Λ) (fmOf 𝓤 H (W .laws) 𝓣) f known (κs .0) (κs .1 .0) (qs .0) (qs .1 .0) (a .0 .ptr .0) (a .0 .ptr .1) (a .0 .name) (a .0 .now) (a .1 .0) (are .1 .0 .0 .1))
+        (λ κs qs bounds a g are. writes W (𝓣 .C) (𝓣 .Λ) (fmOf 𝓤 H (W .laws) 𝓣) f known (κs .0) (κs .1 .0) (qs .0) (qs .1 .0) (a .0 .ptr .0) (a .0 .ptr .1)
+        (a .0 .name) (a .0 .now) (a .1 .0) (are .1 .0 .0 .1))
 
   -- ---- and back: a call by value that makes the writer in a local, lends it to the method, and takes it apart
   abbrev pub ByRef : Contract 𝓤
@@ -229,7 +290,16 @@ module _ {M : Type 1} (𝓤 : URA M) (H : Heap 𝓤) (A : Atoms 𝓤) (call : Wr
     End = walkOf 𝓤 H A byValue stayed-plain saysByValue .post (((κ, tt), (q, tt), tt, args, machine), tt)
 
     abbrev lent-to : ℕ → ℕ → GName → ByRef .Ghost
-    lent-to ν l γ = (((ν ∷ κ, (κ, tt)), (PosShare·left q, (PosShare·right q, tt)), tt, (record { ptr = (l, 0); name = γ; now = made }, (x, tt)), (vptr l 0 ∷ [], (vb ∷ [], tt))), tt)
+    lent-to ν l γ = (
+      (
+        (ν ∷ κ, (κ, tt)),
+        (PosShare·left q, (PosShare·right q, tt)),
+        tt,
+        (record { ptr = (l, 0); name = γ; now = made }, (x, tt)),
+        (vptr l 0 ∷ [], (vb ∷ [], tt)),
+      ),
+      tt,
+    )
 
     abbrev Owns : AmvMuxer → Item 𝓤
     Owns m = ‵ (T.the-row .own m (writerVal m ∷ []))
@@ -255,38 +325,61 @@ module _ {M : Type 1} (𝓤 : URA M) (H : Heap 𝓤) (A : Atoms 𝓤) (call : Wr
 
     begins : ent 𝓤 Begin (mean 𝓤 H A (Owns made ⊛ ‵ (flft κ q) ⊛ ‵ ftrue ⊛ OwnX))
     begins =
-        qed W ((‵ (flft κ q) ⊛ ‵ ftrue) ∷ ‵ (owns (K.the-row ∷ MutSlice (named 0) κ u8 ∷ []) args machine) ∷ []) ∵ owned ! T.the-row (Is T.the-row) (LL.makes T.the-type T′.the-plain 𝓤 H A) made _ (LL.owes T.the-type T′.the-laws made (isw, tt)) $ frame ! $
+        qed W ((‵ (flft κ q) ⊛ ‵ ftrue) ∷ ‵ (owns (K.the-row ∷ MutSlice (named 0) κ u8 ∷ []) args machine) ∷ []) ∵
+        owned ! T.the-row (Is T.the-row) (LL.makes T.the-type T′.the-plain 𝓤 H A) made _ (LL.owes T.the-type T′.the-laws made (isw, tt)) $ frame ! $
         move ! (1 ∷ []) $ fsplit ! $ drop ! $ fsplit ! $ move ! (1 ∷ []) $ drop ! $ move ! (1 ∷ []) $ split ! $ done !
 
-    lends-to : (ν l : ℕ) (γ : GName) → ent 𝓤 (mean 𝓤 H A (Ref ν l γ ⊛ ‵ (flft (ν ∷ κ) (PosShare·left q)) ⊛ ‵ (flft κ (PosShare·right q)) ⊛ ‵ ftrue ⊛ OwnX)) (mean 𝓤 H A (raw (ByRef .pre (lent-to ν l γ)) ⊛ ‵ ftrue))
+    lends-to : (ν l : ℕ) (γ : GName)
+        → ent 𝓤 (mean 𝓤 H A (Ref ν l γ ⊛ ‵ (flft (ν ∷ κ) (PosShare·left q)) ⊛ ‵ (flft κ (PosShare·right q)) ⊛ ‵ ftrue ⊛ OwnX))
+        (mean 𝓤 H A (raw (ByRef .pre (lent-to ν l γ)) ⊛ ‵ ftrue))
     lends-to ν l γ =
-        qed W (Ref ν l γ ∷ ‵ (flft (ν ∷ κ) (PosShare·left q)) ∷ ‵ (flft κ (PosShare·right q)) ∷ ‵ ftrue ∷ OwnX ∷ []) ∵ nothing ! $ move ! (5 ∷ 0 ∷ []) $ fjoin ! $ move ! (1 ∷ 0 ∷ []) $ fjoin ! $
+        qed W (Ref ν l γ ∷ ‵ (flft (ν ∷ κ) (PosShare·left q)) ∷ ‵ (flft κ (PosShare·right q)) ∷ ‵ ftrue ∷ OwnX ∷ []) ∵ nothing ! $ move ! (5 ∷ 0 ∷ []) $
+        fjoin ! $ move ! (1 ∷ 0 ∷ []) $ fjoin ! $
         -- [what the callee is passed; the token of ν ∷ κ; κ's half; true]
-        move ! (2 ∷ 3 ∷ []) $ join ! $ move ! (2 ∷ 0 ∷ []) $ join ! $ use2 W (raw (ByRef .pre (lent-to ν l γ))) (unasked 𝓤 H A W _) $ frame ! $ nothing ! $ done !
+        move ! (2 ∷ 3 ∷ []) $ join ! $ move ! (2 ∷ 0 ∷ []) $ join ! $ use2 W (raw (ByRef .pre (lent-to ν l γ))) (unasked 𝓤 H A W _) $ frame ! $
+        nothing ! $ done !
 
-    lasts-say : (ν l : ℕ) (γ : GName) (ws : Lasts byRef (ν ∷ κ, (κ, tt)) (lent-to ν l γ .0 .3)) → ent 𝓤 (sem 𝓤 H A (lasts byRef (ν ∷ κ, (κ, tt)) (lent-to ν l γ .0 .3) ws)) (mean 𝓤 H A (‵ (fres γ (T.the-row .coded .code (ws .0))) ⊛ Left x (ws .1 .0)))
-    lasts-say ν l γ ws = qed W (‵ (lasts byRef (ν ∷ κ, (κ, tt)) (lent-to ν l γ .0 .3) ws) ∷ []) ∵ fsplit ! $ frame ! $ fsplit ! $ fsplit ! $ move ! (1 ∷ []) $ feqL ! (λ e. check ! e $ keep ! (0 ∷ []) $ done !)
+    lasts-say : (ν l : ℕ) (γ : GName) (ws : Lasts byRef (ν ∷ κ, (κ, tt)) (lent-to ν l γ .0 .3))
+        → ent 𝓤 (sem 𝓤 H A (lasts byRef (ν ∷ κ, (κ, tt)) (lent-to ν l γ .0 .3) ws))
+        (mean 𝓤 H A (‵ (fres γ (T.the-row .coded .code (ws .0))) ⊛ Left x (ws .1 .0)))
+    lasts-say ν l γ ws = qed W (‵ (lasts byRef (ν ∷ κ, (κ, tt)) (lent-to ν l γ .0 .3) ws) ∷ []) ∵ fsplit ! $ frame ! $ fsplit ! $ fsplit ! $ move ! (1 ∷ []) $
+        feqL ! (λ e. check ! e $ keep ! (0 ∷ []) $ done !)
 
-    finishes : (t : AmvResult) (z : After) → Outcomes t z → ent 𝓤 (mean 𝓤 H A (‵ (N.the-row .own t (resultReturned 𝓤 H A W .val t ∷ [])) ⊛ Owns (z .0) ⊛ ‵ (flft κ q) ⊛ Left x (z .1) ⊛ ‵ ftrue ⊛ ‵ ftrue)) (End (res t z))
+    finishes : (t : AmvResult) (z : After) → Outcomes t z
+        → ent 𝓤 (mean 𝓤 H A (‵ (N.the-row .own t (resultReturned 𝓤 H A W .val t ∷ [])) ⊛ Owns (z .0) ⊛ ‵ (flft κ q) ⊛ Left x (z .1) ⊛ ‵ ftrue ⊛ ‵ ftrue))
+        (End (res t z))
     finishes t z e =
-        qed W (‵ (N.the-row .own t (resultReturned 𝓤 H A W .val t ∷ [])) ∷ Owns (z .0) ∷ ‵ (flft κ q) ∷ Left x (z .1) ∷ ‵ ftrue ∷ ‵ ftrue ∷ []) ∵ peeks ! N.the-row (Is N.the-row) (shows 𝓤 H A N.the-row) t _ (λ ist. drop ! $ peeks ! T.the-row (Is T.the-row) (shows 𝓤 H A T.the-row) (z .0) _ (λ ism. drop ! $ move ! (1 ∷ []) $ learn ! (λ same.
-        suffices ! _ (ends-at 𝓤 H A byValue stayed-plain saysByValue W (((κ, tt), (q, tt), tt, args, machine), tt) (res t z) (result t z) (tt, (z .1, tt)) (tt, (same, tt))) $ says ! e $
+        qed W (‵ (N.the-row .own t (resultReturned 𝓤 H A W .val t ∷ [])) ∷ Owns (z .0) ∷ ‵ (flft κ q) ∷ Left x (z .1) ∷ ‵ ftrue ∷ ‵ ftrue ∷ []) ∵
+        peeks ! N.the-row (Is N.the-row) (shows 𝓤 H A N.the-row) t _ (λ ist. drop ! $
+        peeks ! T.the-row (Is T.the-row) (shows 𝓤 H A T.the-row) (z .0) _ (λ ism. drop ! $ move ! (1 ∷ []) $ learn ! (λ same.
+        suffices ! _ (ends-at 𝓤 H A byValue stayed-plain saysByValue W (((κ, tt), (q, tt), tt, args, machine), tt) (res t z) (result t z) (tt, (z .1, tt))
+        (tt, (same, tt))) $ says ! e $
         -- [the last bytes; the token; true; true]
         move ! (1 ∷ 2 ∷ []) $ join ! $ frame ! $ fjoin ! $ owned ! K.the-row (Is K.the-row) (writerHolder 𝓤 H A W .part-made) w _ isw $ fjoin ! $ frame ! $
-        owned ! G.the-row (Is G.the-row) (LL.makes G.the-type G′.the-plain 𝓤 H A) (result t z) _ (LL.owes G.the-type G′.the-laws (result t z) (ist, (LL.owed T.the-type T′.the-laws (z .0) _ ism .0, tt))) $ done !)))
+        owned ! G.the-row (Is G.the-row) (LL.makes G.the-type G′.the-plain 𝓤 H A) (result t z) _
+        (LL.owes G.the-type G′.the-laws (result t z) (ist, (LL.owed T.the-type T′.the-laws (z .0) _ ism .0, tt))) $ done !)))
 
     pub lent : ent 𝓤 Begin (WpFn 𝓤 H C Λ (lendsFn f) (stateVal w ∷ vb ∷ []) End)
     lent =
-        lends 𝓤 H A W C Λ (lendsFn f) (stateVal w ∷ vb ∷ []) f (λ l. vptr l 0 ∷ vb ∷ []) (named 0) κ q T.the-row N.the-row (writerHolder 𝓤 H A W .cell) (resultReturned 𝓤 H A W) made After (λ z. z .0) res
-        (lends-buffer 𝓤 H A W C Λ fm _ _ _ _ _ _ _ _ 0 f _ refl (λ l. (tt, tt)) _ (LL.lawful T.the-type T′.the-laws 𝓤 H A W .typed made _ (LL.owes T.the-type T′.the-laws made (isw, tt)) .0)
-        (AmvResult × After) (λ y. resultReturned 𝓤 H A W .val (y .0)) (λ y. vcons (stateVal (y .1 .0 .writer)) vnil) _ (stateVal w) (LL.lawful K.the-type K′.the-laws 𝓤 H A W .typed w _ isw .0) refl
-        _ _ _ _ _ _ (x .ptr .0) (x .ptr .1) (vint w64 (length (x .now))) (tt, (tt, (record { fits = room .0 }, tt))) (tt, tt) (tt, (tt, (record { fits = room .0 }, tt))))
-        Begin (‵ ftrue ⊛ OwnX) (‵ ftrue) (‵ ftrue) (λ ν l γ. raw (ByRef .pre (lent-to ν l γ))) (λ ν l γ. ByRef .post (lent-to ν l γ)) Outcomes (λ z. Left x (z .1)) End begins lends-to (λ ν l γ. known (lent-to ν l γ))
-        (λ ν l γ. told-last 𝓤 H A W byRef saysByRef (lent-to ν l γ) (λ ws. (ws .0, ws .1 .0)) (λ z. ‵ (fres γ (T.the-row .coded .code (z .0))) ⊛ Left x (z .1)) Outcomes (lasts-say ν l γ) (λ t ws. id⊢ 𝓤 _)) finishes
+        lends 𝓤 H A W C Λ (lendsFn f) (stateVal w ∷ vb ∷ []) f (λ l. vptr l 0 ∷ vb ∷ []) (named 0) κ q T.the-row N.the-row (writerHolder 𝓤 H A W .cell)
+        (resultReturned 𝓤 H A W) made After (λ z. z .0) res
+        (lends-buffer 𝓤 H A W C Λ fm _ _ _ _ _ _ _ _ 0 f _ refl (λ l. (tt, tt)) _
+        (LL.lawful T.the-type T′.the-laws 𝓤 H A W .typed made _ (LL.owes T.the-type T′.the-laws made (isw, tt)) .0)
+        (AmvResult × After) (λ y. resultReturned 𝓤 H A W .val (y .0)) (λ y. vcons (stateVal (y .1 .0 .writer)) vnil) _ (stateVal w)
+        (LL.lawful K.the-type K′.the-laws 𝓤 H A W .typed w _ isw .0) refl
+        _ _ _ _ _ _ (x .ptr .0) (x .ptr .1) (vint w64 (length (x .now))) (tt, (tt, (record { fits = room .0 }, tt))) (tt, tt)
+        (tt, (tt, (record { fits = room .0 }, tt))))
+        Begin (‵ ftrue ⊛ OwnX) (‵ ftrue) (‵ ftrue) (λ ν l γ. raw (ByRef .pre (lent-to ν l γ))) (λ ν l γ. ByRef .post (lent-to ν l γ)) Outcomes
+        (λ z. Left x (z .1)) End begins lends-to (λ ν l γ. known (lent-to ν l γ))
+        (λ ν l γ. told-last 𝓤 H A W byRef saysByRef (lent-to ν l γ) (λ ws. (ws .0, ws .1 .0))
+        (λ z. ‵ (fres γ (T.the-row .coded .code (z .0))) ⊛ Left x (z .1)) Outcomes (lasts-say ν l γ) (λ t ws. id⊢ 𝓤 _)) finishes
 
   module _ (W : Given 𝓤 H A) (𝓣 : Tables 𝓤 H) (f : Name) (known : Triple 𝓤 (𝓣 .C f) ByRef) where
     pub lent-meets : Triples 𝓤 H A (byValue .signature) (WpFn 𝓤 H (𝓣 .C) (𝓣 .Λ) (lendsFn f)) (closing 𝓤 H A byValue saysByValue)
     lent-meets =
-        meets-by 𝓤 H A W 𝓣 byValue stayed-plain (goes-none 𝓤 H A W 1 (λ _. K.the-row) yes (λ κs x f. refl), (goes-gave-slice 𝓤 H A W 1 0 tt (plain (λ _. u8)), tt)) saysByValue (lendsFn f)
+        meets-by 𝓤 H A W 𝓣 byValue stayed-plain (
+          goes-none 𝓤 H A W 1 (λ _. K.the-row) yes (λ κs x f. refl),
+          (goes-gave-slice 𝓤 H A W 1 0 tt (plain (λ _. u8)), tt),
+        ) saysByValue (lendsFn f)
         (λ κs. (LL.vals K.the-type K′.the-laws, (slice-vals, tt))) (λ κs. (LL.tells K.the-type K′.the-laws, (mut-slice-tells (named 0) (κs .0) u8, tt)))
         (λ κs qs bounds a g are. lent W (𝓣 .C) (𝓣 .Λ) (fmOf 𝓤 H (W .laws) 𝓣) f known (κs .0) (qs .0) (a .0) (a .1 .0) (are .0) (are .1 .0 .0 .1))

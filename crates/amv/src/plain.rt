@@ -1,4 +1,5 @@
 // The methods for callers that have plain values: the reader or the writer stands in a local, is lent for one call, and is taken apart again.
+// Each refuses as its method does.
 use crate::reader::AmvDemuxer;
 use crate::writer::AmvMuxer;
 use demuxer::packet::Packet;
@@ -13,6 +14,7 @@ ghost use Rattle.demuxer.specs.Read.{saidRead, Placed, readOf};
 ghost use Rattle.seek.specs.Seek.{saidSought, seekOf};
 ghost use Rattle.muxer.specs.Writer.{headerCall, packetCall, trailerCall, Meets};
 
+// The packet at a walker, or End, and the walker past it.
 pub fn next_packet(file: &[u8], walker: Walker) -> Read
     ensures { λ r. ⌜ (saidRead (now (file .entry)) r ≡ readOf (now (file .entry)) walker) × Placed (now (file .entry)) walker (r .answer) ⌝ }
 {
@@ -24,6 +26,7 @@ pub fn next_packet(file: &[u8], walker: Walker) -> Read
     }
 }
 
+// The walker at the first chunk of a stream whose stamp is the request or later, and the stamp there.
 pub fn seek(file: &[u8], walker: Walker, records: &[u8], stream: u32, request: i64) -> Sought
     ensures { λ r. ⌜ saidSought r ≡ seekOf (now (records .entry)) walker stream request ⌝ }
 {
@@ -35,6 +38,7 @@ pub fn seek(file: &[u8], walker: Walker, records: &[u8], stream: u32, request: i
     }
 }
 
+// The part of a file that a packet names.
 pub fn payload(file: &[u8], packet: Packet) -> &[u8]
     ensures { λ r. ⌜ now r ≡ payloadOf (now (file .entry)) packet ⌝ }
 {
@@ -42,6 +46,7 @@ pub fn payload(file: &[u8], packet: Packet) -> &[u8]
     reader.payload(packet)
 }
 
+// The prelude written to the buffer, and the writer after it.
 pub fn write_header(writer: Writer, buf: &mut [u8]) -> Wrote
     ensures { λ r. ⌜ Meets (headerCall writer (now (buf .entry))) r (now (buf .exit)) ⌝ }
 {
@@ -53,6 +58,7 @@ pub fn write_header(writer: Writer, buf: &mut [u8]) -> Wrote
     }
 }
 
+// A packet written after what is written, and the writer after it.
 pub fn write_packet(writer: Writer, buf: &mut [u8], payload: &[u8], stream: u32) -> Wrote
     ensures { λ r. ⌜ Meets (packetCall writer (now (payload .entry)) stream (now (buf .entry))) r (now (buf .exit)) ⌝ }
 {
@@ -64,6 +70,7 @@ pub fn write_packet(writer: Writer, buf: &mut [u8], payload: &[u8], stream: u32)
     }
 }
 
+// The trailer written, and the writer after it.
 pub fn write_trailer(writer: Writer, buf: &mut [u8]) -> Wrote
     ensures { λ r. ⌜ Meets (trailerCall writer (now (buf .entry))) r (now (buf .exit)) ⌝ }
 {

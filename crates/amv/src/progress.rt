@@ -1,4 +1,4 @@
-// What a walker tells of the reads so far.
+// What a walker tells of the reads so far. None of these functions refuses: each reads fields.
 use demuxer::walker::Trailer;
 use demuxer::walker::Walker;
 ghost use mathlib.Core.Path.{_≡_};
@@ -11,7 +11,7 @@ pub enum TrailerMatch {
     NotMet,
 }
 
-// The next frame's stamp is the count of frames before it.
+// The frames before the next read; the next frame's stamp.
 pub fn video_frames_emitted(walker: Walker) -> u64
     ensures { λ r. ⌜ r ≡ walker .position .frames .0 ⌝ }
 {
@@ -19,7 +19,7 @@ pub fn video_frames_emitted(walker: Walker) -> u64
     position.frames.0
 }
 
-// Blocks, not samples.
+// The blocks of sound before the next read: blocks, not samples.
 pub fn audio_blocks_emitted(walker: Walker) -> u64
     ensures { λ r. ⌜ r ≡ walker .position .blocks .0 ⌝ }
 {
@@ -27,26 +27,28 @@ pub fn audio_blocks_emitted(walker: Walker) -> u64
     position.blocks.0
 }
 
-// As many blocks as frames.
+// Whether as many blocks as frames stand before the next read.
 pub fn movi_interleave_balanced(walker: Walker) -> bool
     ensures { λ r. ⌜ r ≡ eqb (walker .position .frames .0) (walker .position .blocks .0) ⌝ }
 {
     video_frames_emitted(walker) == audio_blocks_emitted(walker)
 }
 
+// Whether a read has found that the file ends before its trailer.
 pub fn is_truncated(walker: Walker) -> bool
     ensures { λ r. ⌜ r ≡ walker .cut ⌝ }
 {
     walker.cut
 }
 
+// Where the trailer stands, once a read has met it.
 pub fn trailer_offset(walker: Walker) -> Trailer
     ensures { λ r. ⌜ r ≡ walker .trailer ⌝ }
 {
     walker.trailer
 }
 
-// Whether the trailer's 8 bytes are the last of a stream of a length. The sum may be past a u64.
+// Whether the trailer's 8 bytes, once met, are the last of a stream of a length. A difference is asked, since the sum may be past a u64.
 pub fn trailer_matches_eof(walker: Walker, stream_len: u64) -> TrailerMatch
     ensures { λ r. ⌜ r ≡ matchesEof (walker .trailer) «stream_len» ⌝ }
 {

@@ -11,7 +11,7 @@ use mir.Val.{SFits, toZ, ofZ}
 use mir.ValLaws.{toZ-ofZ}
 use Rattle.error.specs.Answer.{Answer, accepted, refused, numbered, andThen}
 use Rattle.error.specs.Refusal.{said}
-use Rattle.demuxer.specs.Read.{packet, saidNext, saidRead, readOf}
+use Rattle.demuxer.specs.Read.{saidNext, saidRead, readOf}
 use Rattle.demuxer.specs.declared.walker.Walker.{Walker}
 use Rattle.demuxer.specs.declared.walker.Read.{Read}
 use Rattle.demuxer.specs.declared.walker.NextPacket.{NextPacket}

@@ -1,4 +1,5 @@
-// The C interface. include/amv.h declares it and says what each call gives.
+// The C interface. include/amv.h declares it, with the words of each `out`. A call returns the number of its refusal, or 0; it writes every
+// word of `out`, and where it refuses it changes nothing else.
 use chunk_index::index::IndexResult;
 use chunk_index::index::SummaryResult;
 use chunk_index::index::build_chunk_index;
@@ -37,6 +38,7 @@ ghost use Rattle.capi.specs.Calls.{summaryAnswer, checkAnswer, indexAnsw
 // The number of a call whose state's words are not all in their fields' ranges.
 const ILLEGAL_STATE: u32 = 1;
 
+// The packed run length of a number of frames, 0 for fps 0: a caller that fills in a header asks for it. It refuses nothing.
 #[no_mangle]
 pub extern "C" fn amv_from_frame_count(frames: u64, fps: u32) -> u32
     ensures { λ r. ⌜ r ≡ packedOf (runLength frames fps) ⌝ }
@@ -44,6 +46,7 @@ pub extern "C" fn amv_from_frame_count(frames: u64, fps: u32) -> u32
     AmvDuration::from_frame_count(frames, fps).to_packed()
 }
 
+// Whether tags alternate, a picture first and as many of each, for a caller that has the tags and no file. Refuses with 62 to 65.
 #[no_mangle]
 pub extern "C" fn amv_validate_movi_interleave(tags: &[u32], out: &mut [u64; 1]) -> u32
     ensures { λ r. ⌜ Says 1 (checked (interleave (now (tags .entry)))) r (now (out .exit)) ⌝ }
@@ -51,6 +54,7 @@ pub extern "C" fn amv_validate_movi_interleave(tags: &[u32], out: &mut [u64; 1])
     result_out(chunk::interleave::validate_movi_interleave(tags), out)
 }
 
+// The frames and blocks of a file, without a table. Refuses with 10 and 31.
 #[no_mangle]
 pub extern "C" fn amv_summary(file: &[u8], out: &mut [u64; 3]) -> u32
     ensures { λ r. ⌜ Says 3 (summaryAnswer (now (file .entry))) r (now (out .exit)) ⌝ }
@@ -67,6 +71,7 @@ pub extern "C" fn amv_summary(file: &[u8], out: &mut [u64; 3]) -> u32
     }
 }
 
+// Whether a file is a finished recording, and its totals. Refuses with 10 to 24, 60, 61 and 31.
 #[no_mangle]
 pub extern "C" fn amv_check(file: &[u8], out: &mut [u64; 6]) -> u32
     ensures { λ r. ⌜ Says 6 (checkAnswer (now (file .entry))) r (now (out .exit)) ⌝ }
@@ -90,6 +95,7 @@ pub extern "C" fn amv_check(file: &[u8], out: &mut [u64; 6]) -> u32
     }
 }
 
+// The index of a file into a table, for the jumps; gives the number of records. Refuses with 10, 31 and 40.
 #[no_mangle]
 pub extern "C" fn amv_build_chunk_index(file: &[u8], table: &mut [u8], out: &mut [u64; 2]) -> u32
     ensures { λ r. ⌜ Says 2 (indexAnswer (now (file .entry)) (now (table .entry))) r (now (out .exit)) ⌝ }
@@ -107,6 +113,7 @@ pub extern "C" fn amv_build_chunk_index(file: &[u8], table: &mut [u8], out: &mut
     }
 }
 
+// Either way of parsing the prelude.
 fn parsed(file: &[u8], strict: bool) -> AmvPreludeResult
     ensures { λ r. ⌜ saidPrelude r ≡ cond strict (strictOf (now (file .entry))) (parseOf (now (file .entry))) ⌝ }
 {
@@ -117,6 +124,7 @@ fn parsed(file: &[u8], strict: bool) -> AmvPreludeResult
     }
 }
 
+// The fields of the prelude. Refuses with 10 to 13 for a layout that is not that of the format and, if strict, with 14 to 24 for a field.
 #[no_mangle]
 pub extern "C" fn amv_parse(file: &[u8], strict: bool, out: &mut [u64; 16]) -> u32
     ensures { λ r. ⌜ Says 16 (parseAnswer (now (file .entry)) strict) r (now (out .exit)) ⌝ }
@@ -133,9 +141,11 @@ pub extern "C" fn amv_parse(file: &[u8], strict: bool, out: &mut [u64; 16]) -> u
     }
 }
 
+// The packet at the walker, or End, and the walker past it. Refuses with 1, 10, 32 and 31.
 #[no_mangle]
 pub extern "C" fn amv_next_packet(file: &[u8], walker: &mut [u64; 7], out: &mut [u64; 7]) -> u32
-    ensures { λ r. ⌜ Walks 7 (nextAnswer (now (file .entry))) (nextWalker (now (file .entry))) (now (walker .entry)) r (now (out .exit)) (now (walker .exit)) ⌝ }
+    ensures { λ r. ⌜ Walks 7 (nextAnswer (now (file .entry))) (nextWalker (now (file .entry)))
+        (now (walker .entry)) r (now (out .exit)) (now (walker .exit)) ⌝ }
 {
     let WalkerState::Legal(state) = walker_of(*walker) else {
         *out = [0; 7];
@@ -165,6 +175,7 @@ pub extern "C" fn amv_next_packet(file: &[u8], walker: &mut [u64; 7], out: &mut 
     }
 }
 
+// A jump by the index: the walker at the first chunk of the stream whose stamp is the request or later. Refuses with 1, 41, 42, 43 and 32.
 #[no_mangle]
 pub extern "C" fn amv_seek_to_via_index(
     table: &[u8],
@@ -173,7 +184,8 @@ pub extern "C" fn amv_seek_to_via_index(
     request: i64,
     out: &mut [u64; 2],
 ) -> u32
-    ensures { λ r. ⌜ Walks 2 (seekAnswer (now (table .entry)) stream request) (seekWalker (now (table .entry)) stream request) (now (walker .entry)) r (now (out .exit)) (now (walker .exit)) ⌝ }
+    ensures { λ r. ⌜ Walks 2 (seekAnswer (now (table .entry)) stream request) (seekWalker (now (table .entry)) stream request)
+        (now (walker .entry)) r (now (out .exit)) (now (walker .exit)) ⌝ }
 {
     let WalkerState::Legal(state) = walker_of(*walker) else {
         *out = [0, 0];
@@ -195,9 +207,11 @@ pub extern "C" fn amv_seek_to_via_index(
     }
 }
 
+// Writes the prelude, the first call of a writer. Refuses with 1, 50, 55 and 54.
 #[no_mangle]
 pub extern "C" fn amv_write_header(writer: &mut [u64; 9], buf: &mut [u8], out: &mut [u64; 1]) -> u32
-    ensures { λ r. ⌜ Writes (λ w. headerCall w (now (buf .entry))) (now (writer .entry)) (now (buf .entry)) r (now (out .exit)) (now (writer .exit)) (now (buf .exit)) ⌝ }
+    ensures { λ r. ⌜ Writes (λ w. headerCall w (now (buf .entry)))
+        (now (writer .entry)) (now (buf .entry)) r (now (out .exit)) (now (writer .exit)) (now (buf .exit)) ⌝ }
 {
     let WriterState::Legal(state) = writer_of(*writer) else {
         *out = [0];
@@ -210,6 +224,7 @@ pub extern "C" fn amv_write_header(writer: &mut [u64; 9], buf: &mut [u8], out: &
     result_out(result, out)
 }
 
+// Writes a packet after what is written. Refuses with 1, 51, 55, 56, 52, 53 and 54.
 #[no_mangle]
 pub extern "C" fn amv_write_packet(
     writer: &mut [u64; 9],
@@ -218,7 +233,8 @@ pub extern "C" fn amv_write_packet(
     stream: u32,
     out: &mut [u64; 1],
 ) -> u32
-    ensures { λ r. ⌜ Writes (λ w. packetCall w (now (payload .entry)) stream (now (buf .entry))) (now (writer .entry)) (now (buf .entry)) r (now (out .exit)) (now (writer .exit)) (now (buf .exit)) ⌝ }
+    ensures { λ r. ⌜ Writes (λ w. packetCall w (now (payload .entry)) stream (now (buf .entry)))
+        (now (writer .entry)) (now (buf .entry)) r (now (out .exit)) (now (writer .exit)) (now (buf .exit)) ⌝ }
 {
     let WriterState::Legal(state) = writer_of(*writer) else {
         *out = [0];
@@ -242,13 +258,15 @@ pub extern "C" fn amv_write_packet(
     }
 }
 
+// Writes the trailer, and the run length into the prelude: the last call of a writer. Refuses with 1, 51, 55, 56 and 54.
 #[no_mangle]
 pub extern "C" fn amv_write_trailer(
     writer: &mut [u64; 9],
     buf: &mut [u8],
     out: &mut [u64; 1],
 ) -> u32
-    ensures { λ r. ⌜ Writes (λ w. trailerCall w (now (buf .entry))) (now (writer .entry)) (now (buf .entry)) r (now (out .exit)) (now (writer .exit)) (now (buf .exit)) ⌝ }
+    ensures { λ r. ⌜ Writes (λ w. trailerCall w (now (buf .entry)))
+        (now (writer .entry)) (now (buf .entry)) r (now (out .exit)) (now (writer .exit)) (now (buf .exit)) ⌝ }
 {
     let WriterState::Legal(state) = writer_of(*writer) else {
         *out = [0];

@@ -24,7 +24,10 @@ use Rattle.cases.specs.Cases.{Cases}
 use Rattle.cases.specs.Example.{E}
 
 pub cases : Cases
-unfolding le leBytes packedOf runLength ofSeconds interleaveFrom headerFields headerSentinels cbSizeOf waveFormatFields waveFormatOf waveFormatSentinels preludeBytes layout askWord askBody askItems preludeFields parseOf zeros zeroRanges validatedOf strictOf preambleOf headAt countOf payloadOf shownOf inRange readFrame readSound readChunk readOf walkFor walk chunkBytes chunksBytes entryBytes tableBytes entryAt entriesFrom records tagsKnown indexOf goodEntries seekQuestions find pastLast seekOf tagsOf checkFrom checkOf E
+unfolding le leBytes packedOf runLength ofSeconds interleaveFrom headerFields headerSentinels cbSizeOf waveFormatFields waveFormatOf waveFormatSentinels
+    preludeBytes layout askWord askBody askItems preludeFields parseOf zeros zeroRanges validatedOf strictOf preambleOf headAt countOf payloadOf shownOf inRange
+    readFrame readSound readChunk readOf walkFor walk chunkBytes chunksBytes entryBytes tableBytes entryAt entriesFrom records tagsKnown indexOf goodEntries
+    seekQuestions find pastLast seekOf tagsOf checkFrom checkOf E
 cases =
     record {
       one = refl;

@@ -1,4 +1,4 @@
--- The check's answers are those of the other cases; the lines of the chunks are computed. Assumes nothing.
+-- The listings of E and of T. The check's answers are those of the other cases; the lines of the chunks are computed. Assumes nothing.
 use mathlib.Core.Path.{_≡_, refl, ap, _∙_}
 use mathlib.Core.Bool.{true, false}
 use mathlib.Core.List.{List, [], _∷_, _++_, append-assoc}

@@ -59,7 +59,11 @@ unfolding trailerCall
 trailer-asked w buf = asked (trailerQuestions w (length buf)) w _ buf _
 
 pub numbers : Numbers
-unfolding le leBytes put interleaveFrom headerFields headerOf headerSentinels cbSizeOf waveFormatFields waveFormatSentinels preambleOf chunkHeaderOf preludeBytes layout askWord askBody askItems preludeFields parseOf zeros zeroRanges validatedOf strictOf headAt countOf inRange readFrame readSound readChunk readOf walkFor walk chunkBytes chunksBytes entryBytes tableBytes entryAt entriesFrom records tagsKnown indexOf buildOf countsFrom summaryOf goodEntries seekQuestions find pastLast seekOf tagsOf checkFrom checkOf headerQuestions headerCall packetQuestions packetCall trailerQuestions trailerCall E P T
+unfolding le leBytes put interleaveFrom headerFields headerOf headerSentinels cbSizeOf waveFormatFields waveFormatSentinels preambleOf chunkHeaderOf
+    preludeBytes layout askWord askBody askItems preludeFields parseOf zeros zeroRanges validatedOf strictOf headAt countOf inRange readFrame readSound
+    readChunk readOf walkFor walk chunkBytes chunksBytes entryBytes tableBytes entryAt entriesFrom records tagsKnown indexOf buildOf countsFrom summaryOf
+    goodEntries seekQuestions find pastLast seekOf tagsOf checkFrom checkOf headerQuestions headerCall packetQuestions packetCall trailerQuestions trailerCall E
+    P T
 numbers =
     record {
       ten-parse = λ file e. rw e;

@@ -18,7 +18,9 @@ use Rattle.cases.specs.Numbers.{P}
 use Rattle.cases.specs.Orders.{spoiling, eachFirst, eachCut, Orders}
 
 pub orders : Orders
-unfolding le leBytes put interleaveFrom headerFields headerSentinels cbSizeOf waveFormatFields waveFormatSentinels preambleOf chunkHeaderOf preludeBytes layout askWord askBody askItems preludeFields parseOf zeros zeroRanges validatedOf strictOf inRange readOf checkOf headerQuestions headerCall packetQuestions packetCall trailerQuestions trailerCall packedOf durationOf runLength ofSeconds spoiling eachFirst eachCut P
+unfolding le leBytes put interleaveFrom headerFields headerSentinels cbSizeOf waveFormatFields waveFormatSentinels preambleOf chunkHeaderOf preludeBytes layout
+    askWord askBody askItems preludeFields parseOf zeros zeroRanges validatedOf strictOf inRange readOf checkOf headerQuestions headerCall packetQuestions
+    packetCall trailerQuestions trailerCall packedOf durationOf runLength ofSeconds spoiling eachFirst eachCut P
 orders =
     record {
       parsed = refl;

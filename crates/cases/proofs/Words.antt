@@ -23,7 +23,10 @@ use Rattle.cases.specs.Numbers.{P, T}
 use Rattle.cases.specs.Words.{Words}
 
 pub words : Words
-unfolding le leBytes put interleaveFrom headerFields headerSentinels cbSizeOf waveFormatFields waveFormatSentinels preambleOf preludeBytes layout askWord askBody askItems preludeFields parseOf zeros zeroRanges validatedOf strictOf headAt countOf inRange readFrame readSound readChunk readOf walkFor walk chunkBytes chunksBytes entryBytes tableBytes entryAt entriesFrom records tagsKnown indexOf buildOf countsFrom summaryOf goodEntries seekQuestions find pastLast seekOf tagsOf checkFrom checkOf walkerLegal settingsLegal writerLegal E P T
+unfolding le leBytes put interleaveFrom headerFields headerSentinels cbSizeOf waveFormatFields waveFormatSentinels preambleOf preludeBytes layout askWord
+    askBody askItems preludeFields parseOf zeros zeroRanges validatedOf strictOf headAt countOf inRange readFrame readSound readChunk readOf walkFor walk
+    chunkBytes chunksBytes entryBytes tableBytes entryAt entriesFrom records tagsKnown indexOf buildOf countsFrom summaryOf goodEntries seekQuestions find
+    pastLast seekOf tagsOf checkFrom checkOf walkerLegal settingsLegal writerLegal E P T
 words =
     record {
       walker = refl;

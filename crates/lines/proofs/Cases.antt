@@ -1,4 +1,4 @@
--- The lines that document 01 prints. Assumes nothing.
+-- The lines that document 01 prints, each computed from its definition. Assumes nothing.
 use mathlib.Core.Path.{_≡_, refl}
 use mathlib.Core.Bool.{true, false}
 use mathlib.Core.List.{[], _∷_}

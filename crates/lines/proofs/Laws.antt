@@ -1,4 +1,4 @@
--- What the functions cite: words put one after another. Assumes nothing.
+-- Words put one after another: the buffer keeps its length, and a word right after another makes one longer word. Assumes nothing.
 use mathlib.Core.Path.{_≡_, ap, _∙_}
 use mathlib.Core.List.{List, _++_}
 use Prim.Native.Nat.{ℕ, _+_, _-_, _≤_}

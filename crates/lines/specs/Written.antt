@@ -1,4 +1,4 @@
--- What the functions that write one word or one line after another ensure. Assumes nothing.
+-- What a function that puts a word or a line into a buffer promises: the bytes, where they end, and that they fit. Assumes nothing.
 use mathlib.Core.Path.{_≡_}
 use Prim.Native.Nat.{ℕ, _+_, _≤_}
 use mathlib.Core.List.{List}

@@ -1,4 +1,5 @@
-// The lines of a listing, as bytes at an offset of a lent buffer. Each function answers where its bytes end.
+// The lines of a listing, as bytes at an offset of a lent buffer. Each function answers where its bytes end. None refuses: a caller lends
+// the room that `requires` names, and so many bytes hold the longest line of the kind.
 ghost use mathlib.Core.Path.{_≡_};
 ghost use mathlib.Core.List.{[], _∷_, _++_};
 ghost use Prim.Native.Nat.{_+_, _≤_};
@@ -6,6 +7,7 @@ ghost use lib.ListN.{length, drop};
 ghost use Rattle.lines.specs.Lines.{decimal, kind, yesNo, PAIRED, spaced, chunkLine, totalsLine, refusalLine, longLine};
 ghost use Rattle.lines.specs.Written.{Written};
 
+// Copies a word to an offset: all other functions write by it.
 fn put_word(out: &mut [u8], off: usize, word: &[u8]) -> usize
     requires { ⌜ off + length (now word) ≤ length (now out) ⌝ }
     ensures { λ r. ⌜ Written (now (out .entry)) off (now (word .entry)) (now (out .exit)) r ⌝ }
@@ -31,7 +33,7 @@ fn put_digits(digits: &mut [u8], n: u64) -> usize
     i
 }
 
-// A number has a space before it.
+// Puts a space and a number in decimal, without leading zeros: the form that every number of a line has.
 pub fn put_number(out: &mut [u8], off: usize, n: u64) -> usize
     requires { ⌜ off + 21 ≤ length (now out) ⌝ }
     ensures { λ r. ⌜ Written (now (out .entry)) off (32 ∷ decimal n) (now (out .exit)) r ⌝ }
@@ -43,6 +45,7 @@ pub fn put_number(out: &mut [u8], off: usize, n: u64) -> usize
     put_word(out, at, &digits[from..])
 }
 
+// Puts a name and the number after it.
 fn put_field(out: &mut [u8], off: usize, name: &[u8], n: u64) -> usize
     requires { ⌜ off + length (now name) + 21 ≤ length (now out) ⌝ }
     ensures { λ r. ⌜ Written (now (out .entry)) off (now (name .entry) ++ 32 ∷ decimal n) (now (out .exit)) r ⌝ }
@@ -52,6 +55,7 @@ fn put_field(out: &mut [u8], off: usize, name: &[u8], n: u64) -> usize
     put_number(out, at, n)
 }
 
+// Puts the letter of a chunk's kind.
 fn put_kind(out: &mut [u8], off: usize, frame: bool) -> usize
     requires { ⌜ off + 1 ≤ length (now out) ⌝ }
     ensures { λ r. ⌜ Written (now (out .entry)) off (kind frame) (now (out .exit)) r ⌝ }
@@ -64,6 +68,7 @@ fn put_kind(out: &mut [u8], off: usize, frame: bool) -> usize
     }
 }
 
+// Puts the end of the line of totals: whether each frame has its block.
 fn put_paired(out: &mut [u8], off: usize, paired: bool) -> usize
     requires { ⌜ off + 10 ≤ length (now out) ⌝ }
     ensures { λ r. ⌜ Written (now (out .entry)) off (spaced (PAIRED ∷ yesNo paired ∷ [])) (now (out .exit)) r ⌝ }
@@ -76,7 +81,7 @@ fn put_paired(out: &mut [u8], off: usize, paired: bool) -> usize
     }
 }
 
-// The line of a chunk.
+// Puts the line of a chunk: its kind and offset, and the frames, samples and blocks before it.
 pub fn put_chunk_line(
     out: &mut [u8],
     off: usize,
@@ -98,7 +103,7 @@ pub fn put_chunk_line(
     put_word(out, e, b"\n")
 }
 
-// The line of the totals.
+// Puts the line of the totals, the last one of a file that the check accepts.
 pub fn put_totals_line(
     out: &mut [u8],
     off: usize,
@@ -119,7 +124,7 @@ pub fn put_totals_line(
     put_paired(out, d, paired)
 }
 
-// The only line of a file that the check refuses.
+// Puts the only line of a file that the check refuses: the refusal's number and place.
 pub fn put_refusal_line(out: &mut [u8], off: usize, number: u32, place: u64) -> usize
     requires { ⌜ off + 45 ≤ length (now out) ⌝ }
     ensures { λ r. ⌜ Written (now (out .entry)) off (refusalLine number place) (now (out .exit)) r ⌝ }
@@ -130,7 +135,7 @@ pub fn put_refusal_line(out: &mut [u8], off: usize, number: u32, place: u64) -> 
     put_word(out, b, b"\n")
 }
 
-// The only line of a longer input.
+// Puts the only line of an input that is too long to be listed.
 pub fn put_long_line(out: &mut [u8], off: usize) -> usize
     requires { ⌜ off + 8 ≤ length (now out) ⌝ }
     ensures { λ r. ⌜ Written (now (out .entry)) off longLine (now (out .exit)) r ⌝ }

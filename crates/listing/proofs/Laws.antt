@@ -1,14 +1,13 @@
 -- The three kinds of listing, and that nothing is missing of a file that the check accepts. Assumes nothing.
-use mathlib.Core.Path.{_≡_}
+use mathlib.Core.Path.{_≡_, sym}
 use mathlib.Core.Bool.{Bool}
 use mathlib.Core.List.{List}
 use Prim.Native.Nat.{ℕ, _≤_, _<_}
-use native.Mathlib.Omega.{arith}
 use borrow.Author.Tests.{le-leb, lt-leb, eqb-true}
 use lib.Dec.{eqb}
 use lib.ListN.{length}
 use Rattle.error.specs.Answer.{Answer, accepted, refused, andThen}
-use Rattle.error.proofs.Answers.{ask-passed}
+use Rattle.error.proofs.Answers.{never, ask-passed}
 use Rattle.lines.specs.Lines.{longLine}
 use Rattle.demuxer.specs.Position.{start}
 use Rattle.demuxer.specs.declared.position.Position.{Position}
@@ -20,7 +19,7 @@ use Rattle.recording.specs.Check.{checkFrom, checkOf}
 use Rattle.recording.specs.declared.check.Totals.{Totals}
 use Rattle.recording.proofs.CheckWalks.{allPaired}
 use Rattle.listing.specs.Listing.{checkedLines, inputLimit, listingOf, ListingIs}
-use Rattle.listing.specs.Room.{Whole}
+use Rattle.listing.specs.Steps.{Whole}
 
 pub long-listed : (input : List ℕ) → inputLimit < length input → listingOf input ≡ longLine
 unfolding listingOf
@@ -52,4 +51,4 @@ accepted-whole file t e = go (strictOf file) e
   where
     go : (x : Answer AmvPrelude) → andThen x (λ _. checkFrom start (allPaired file) (fileWalk file)) ≡ accepted t → Whole (fileWalk file)
     go (accepted p) q = whole-walk start (allPaired file) (fileWalk file) t q
-    go (refused r) q = let z : _≡_ {A = ℕ} 0 1 = cc in absurd (omega arith)
+    go (refused r) q = never (sym q)

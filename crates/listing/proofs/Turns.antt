@@ -27,7 +27,7 @@ use Rattle.chunk_index.specs.Walk.{Kind, frame, sound, chunk, onHead, walk}
 use Rattle.chunk_index.proofs.Walks.{head-there, walk-step, payload-size}
 use Rattle.recording.proofs.Positions.{count-le}
 use Rattle.listing.specs.Listing.{lineAt, chunkLines, inputLimit}
-use Rattle.listing.specs.Room.{room, Whole}
+use Rattle.listing.specs.Steps.{room, Whole}
 
 -- the lines that are left at a position
 abbrev pub linesFrom : List ℕ → Position → List ℕ

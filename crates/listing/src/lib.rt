@@ -14,9 +14,9 @@ ghost use Rattle.demuxer.specs.Position.{start};
 ghost use Rattle.chunk_index.specs.Index.{fileWalk};
 ghost use Rattle.recording.specs.Check.{checkOf};
 ghost use Rattle.listing.specs.Listing.{chunkLines, checkedLines, inputLimit, listingOf};
-ghost use Rattle.listing.specs.Room.{room, Whole};
+ghost use Rattle.listing.specs.Steps.{room, Whole};
 
-// The longest input that is listed.
+// The longest input that is listed, in bytes.
 pub const INPUT_LIMIT: usize = 65_536;
 
 // A buffer of so many bytes holds every listing. A chunk takes 8 bytes or more and its line at most 86, fewer than 8 times 11; the 316
@@ -80,7 +80,8 @@ fn put_checked_lines(out: &mut [u8], file: &[u8]) -> usize
     }
 }
 
-// Writes the listing of an input to the front of the buffer, and answers its length.
+// Writes the listing of an input to the front of the buffer, and answers its length. It refuses nothing: a file that the check refuses and an
+// input over the limit have a listing of one line. A program that shows a recording as text calls it.
 pub fn list(input: &[u8], lines: &mut [u8; ROOM]) -> usize
     ensures { λ r. ⌜ Written (now (lines .entry)) 0 (listingOf (now (input .entry))) (now (lines .exit)) r ⌝ }
 {

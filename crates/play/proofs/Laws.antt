@@ -1,4 +1,4 @@
--- How one call of the program goes on from another.
+-- How one call of the program goes on from another: writing calls one after the other, and the reads that are left. Assumes nothing.
 use mathlib.Core.Path.{_≡_, sym, ap, ap₂, _∙_}
 use Prim.Native.Nat.{ℕ, suc, _-_, _<_, _≤_}
 use mathlib.Core.List.{List}
@@ -13,7 +13,8 @@ use Rattle.muxer.specs.declared.Wrote.{Wrote}
 use Rattle.play.specs.Recording.{Left, goOn, played}
 
 -- a call on what another left has the outcome of one after the other
-pub onwards : (f : Writer → List ℕ → Outcome) (o : Outcome) {w r : Writer} {b after : List ℕ} → Left o w b → Left (f w b) r after → Left (f (o .writer) (o .buffer)) r after
+pub onwards : (f : Writer → List ℕ → Outcome) (o : Outcome) {w r : Writer} {b after : List ℕ} → Left o w b → Left (f w b) r after
+    → Left (f (o .writer) (o .buffer)) r after
 onwards f o first second =
     record {
       writer = second .writer ∙ ap₂ (λ (w : Writer) (b : List ℕ). f w b .writer) (first .writer) (first .buffer);

@@ -1,4 +1,4 @@
--- The lent bytes after a writing call over the words of a case. Assumes nothing.
+-- The lent bytes after a writing call over the words of a case: equal words leave equal buffers. Assumes nothing.
 use mathlib.Core.Path.{_≡_, ap, _∙_}
 use mathlib.Core.List.{List}
 use Prim.Native.Nat.{ℕ}

@@ -1,4 +1,4 @@
--- A case that is whole. Assumes nothing.
+-- Where the parts of a case stand that is known to be whole. Assumes nothing.
 use mathlib.Core.Path.{_≡_, subst}
 use mathlib.Core.List.{List}
 use Prim.Native.Nat.{ℕ}

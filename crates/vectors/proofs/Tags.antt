@@ -1,4 +1,4 @@
--- Tags put one after another. Assumes nothing.
+-- Tags put one after another, and what the loop that loads them keeps. Assumes nothing.
 use mathlib.Core.Path.{_≡_, refl, sym, ap, _∙_}
 use mathlib.Core.List.{List, [], _∷_}
 use Prim.Native.Nat.{ℕ, zero, suc, _+_, _*_, _≤_, _<_}

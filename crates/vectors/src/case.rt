@@ -6,39 +6,51 @@ ghost use Prim.Native.Nat.{_+_, _≤_, _<_};
 ghost use lib.ListN.{length};
 ghost use Rattle.vectors.specs.Cases.{Parts, headOf};
 
-// The functions, by the number in a case's first byte.
+// The functions that a case may call, by the number in its first byte.
 pub struct Functions;
 
 impl Functions {
+    // The prelude, as it is or strict.
     pub const PARSE: usize = 1;
 
+    // One read.
     pub const NEXT_PACKET: usize = 2;
 
+    // The index into a lent table: the first of the calls that write to lent bytes.
     pub const BUILD_CHUNK_INDEX: usize = 3;
 
+    // A writer's first call.
     pub const WRITE_HEADER: usize = 4;
 
+    // A packet.
     pub const WRITE_PACKET: usize = 5;
 
+    // A writer's last call, and the last of those that write to lent bytes.
     pub const WRITE_TRAILER: usize = 6;
 
+    // A jump by an index.
     pub const SEEK_TO_VIA_INDEX: usize = 7;
 
+    // Whether tags alternate.
     pub const INTERLEAVE: usize = 8;
 
+    // A packed run length.
     pub const FROM_FRAME_COUNT: usize = 9;
 
-    // From here on a case is a whole file and nothing else.
+    // The counts of a file. From here on a case is a whole file and nothing else.
     pub const SUMMARY: usize = 10;
 
+    // The check of a file.
     pub const CHECK: usize = 11;
 
+    // The listing of a file.
     pub const LISTING: usize = 12;
 
+    // One more than the last number, for a table of counts by function.
     pub const COUNT: usize = 13;
 }
 
-// A case of none of them is run as the first.
+// The function of a case's first byte. Refuses none: a case of no function is run as the first, so that no case is passed over.
 pub fn function_of(byte: u8) -> usize
     ensures { λ r. ⌜ r ≡ cond (ltb byte 13) byte 1 ⌝ }
     ensures { λ r. ⌜ r < 13 ⌝ }
@@ -60,11 +72,13 @@ pub struct Case {
     pub end: usize,
 }
 
+// A case of the input, or that the input ends before its end.
 pub enum CaseAt {
     Whole(Case),
     Short,
 }
 
+// The case at an offset, taken apart. Short where the input has less than the head or than the lengths in it say.
 pub fn case_at(input: &[u8], at: usize) -> CaseAt
     ensures { λ r. ⌜ Parts (now (input .entry)) at r ⌝ }
 {
@@ -92,7 +106,7 @@ pub fn case_at(input: &[u8], at: usize) -> CaseAt
     })
 }
 
-// Three parameters, and nine words of a state.
+// The twelve words of a case: three parameters, and nine words of a state.
 pub fn head_of(input: &[u8], at: usize) -> [u64; 12]
     requires { ⌜ at + 113 ≤ length (now input) ⌝ }
     ensures { λ r. ⌜ r ≡ headOf (now (input .entry)) at ⌝ }

@@ -172,7 +172,8 @@ fn run_write_header(head: [u64; 12], buf: &mut [u8])
 }
 
 fn run_write_packet(head: [u64; 12], buf: &mut [u8], payload: &[u8])
-    ensures { λ _. ⌜ now (buf .exit) ≡ bufferAfter (λ w. packetCall w (now (payload .entry)) (streamIn head) (now (buf .entry))) (writerIn head) (now (buf .entry)) ⌝ }
+    ensures { λ _. ⌜ now (buf .exit)
+        ≡ bufferAfter (λ w. packetCall w (now (payload .entry)) (streamIn head) (now (buf .entry))) (writerIn head) (now (buf .entry)) ⌝ }
 {
     let mut writer = writer_of(head);
     let mut out = [0u64; 1];
@@ -264,7 +265,7 @@ fn run_writing(function: usize, bytes: &[u8], lent: &mut [u8], head: [u64; 12])
     }
 }
 
-// A case of a call that writes has the lent bytes second.
+// Runs the call of a case and prints its answer; refusals are answers, and are printed. A case of a call that writes has the lent bytes second.
 pub fn run_case(function: usize, first: &[u8], second: &[u8], head: [u64; 12]) {
     if function < Functions::BUILD_CHUNK_INDEX {
         run_reading(function, first, head);

@@ -1,4 +1,4 @@
--- What a call says, by its answer; and that words taken for a state and written back are the same.
+-- What a call says, by its answer: accepted with its words, or refused with its number and place; and the words of a packet. Assumes nothing.
 use mathlib.Core.Path.{_≡_, sym, ap, subst, _∙_}
 use Prim.Native.Nat.{ℕ, _-_}
 use mathlib.Core.List.{List, _∷_}

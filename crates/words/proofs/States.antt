@@ -1,4 +1,4 @@
--- The words stand for the state. Assumes nothing.
+-- The words stand for the state: taken for a state and written back they are the same, and a state's words spell it again. Assumes nothing.
 use mathlib.Core.Path.{_≡_, refl, sym, ap, _∙_}
 use Prim.Native.Nat.{ℕ, zero, suc, _+_}
 use mathlib.Core.Bool.{Bool, true, false, _&&_}
@@ -9,12 +9,30 @@ use lib.Dec.{leb, eqb}
 use lib.ListN.{length, drop}
 use lib.Seq.{drop-cons, drop-length}
 use Rattle.error.specs.Answer.{accepted}
-use Rattle.error.proofs.Answers.{both}
+use Rattle.error.proofs.Answers.{never, both}
 use Rattle.demuxer.specs.Read.{advanced}
 use Rattle.demuxer.specs.declared.position.Position.{Position}
 use Rattle.demuxer.specs.declared.walker.Walker.{Walker}
 use Rattle.muxer.specs.declared.Writer.{Writer}
-use Rattle.words.specs.State.{word, markOf, markWord, notMet, trailerOf, trailerWord, askState, walkerLegal, walkerOf, walkerWords, positionInto, settingsLegal, writerLegal, writerOf, writerWords, countsInto, WordsStand}
+use Rattle.words.specs.State.{
+  word,
+  markOf,
+  markWord,
+  notMet,
+  trailerOf,
+  trailerWord,
+  askState,
+  walkerLegal,
+  walkerOf,
+  walkerWords,
+  positionInto,
+  settingsLegal,
+  writerLegal,
+  writerOf,
+  writerWords,
+  countsInto,
+  WordsStand,
+}
 
 -- ---- a list by its elements
 
@@ -61,7 +79,7 @@ mark-legal false = refl
 -- an accepted state is the one that the words spell, and they are legal
 decoded : {S : Type 0} {s w : S} (legal : Bool) → askState legal s ≡ accepted w → (legal ≡ true) × (w ≡ s)
 decoded true e = (refl, cc)
-decoded false e = let z : _≡_ {A = ℕ} 0 1 = cc in absurd (omega arith)
+decoded false e = never (sym e)
 
 -- at another position only the first four words differ
 pub position-kept : (ws : List ℕ) (w : Walker) (p : Position) → walkerOf ws ≡ accepted w → positionInto p ws ≡ walkerWords (advanced w p)

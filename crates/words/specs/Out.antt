@@ -5,10 +5,8 @@ use mathlib.Core.List.{List, [], _∷_}
 use mathlib.Core.Option.{Option, none, some}
 use lib.ListN.{length, replicate}
 use Rattle.error.specs.Answer.{Answer, accepted, refused, numberOf, andThen}
-use Rattle.demuxer.specs.Packet.{ticks}
 use Rattle.demuxer.specs.Read.{ReadAnswer, packet, End}
 use Rattle.demuxer.specs.Read as read
-use Rattle.demuxer.specs.declared.packet.PacketDuration.{PacketDuration}
 use Rattle.demuxer.specs.declared.walker.Walker.{Walker}
 use Rattle.prelude.specs.declared.prelude.AmvPrelude.{AmvPrelude}
 
@@ -44,9 +42,6 @@ unlessRefused before (refused r) after = before
 abbrev pub shownDuration : Option ℕ → ℕ
 shownDuration (some n) = n
 shownDuration none = 0
-
-abbrev pub durationWord : PacketDuration → ℕ
-durationWord d = shownDuration (ticks d)
 
 -- a packet: 1, stream, the payload's offset and length, stamp, duration
 abbrev pub packetWords : ℕ → ℕ → ℕ → ℕ → Option ℕ → List ℕ

@@ -1,4 +1,4 @@
-// The words of an answer.
+// The words of an answer. None of these functions refuses: each spells out an answer that is known.
 use demuxer::packet::Packet;
 use demuxer::packet::PacketDuration;
 use error::AmvResult;
@@ -7,9 +7,9 @@ ghost use mathlib.Core.Path.{_≡_};
 ghost use mathlib.Core.List.{_∷_};
 ghost use Rattle.demuxer.specs.Packet.{ticks};
 ghost use Rattle.error.specs.Refusal.{said};
-ghost use Rattle.words.specs.Out.{Says, checked, durationWord, preludeWords, packetWords};
+ghost use Rattle.words.specs.Out.{Says, checked, shownDuration, preludeWords, packetWords};
 
-// The answer of a call that only checks: its number, and its place in `out`.
+// The answer of a call that only checks: gives its number, and leaves its place in `out`.
 pub fn result_out(result: AmvResult, out: &mut [u64; 1]) -> u32
     ensures { λ r. ⌜ Says 1 (checked (said result)) r (now (out .exit)) ⌝ }
 {
@@ -25,8 +25,9 @@ pub fn result_out(result: AmvResult, out: &mut [u64; 1]) -> u32
     }
 }
 
+// The word of a packet's duration, 0 for none.
 fn duration_word(duration: PacketDuration) -> u64
-    ensures { λ r. ⌜ r ≡ durationWord duration ⌝ }
+    ensures { λ r. ⌜ r ≡ shownDuration (ticks duration) ⌝ }
 {
     match duration {
         PacketDuration::Ticks(ticks) => ticks,
@@ -34,6 +35,7 @@ fn duration_word(duration: PacketDuration) -> u64
     }
 }
 
+// The words of a packet as `out` has them: a caller in C finds the payload by its offset and length in the file.
 pub fn packet_out(packet: Packet) -> [u64; 7]
     ensures { λ r. ⌜ r ≡ (0 ∷ packetWords (packet .stream) (packet .start) (packet .len) (packet .stamp) (ticks (packet .duration))) ⌝ }
 {
@@ -49,6 +51,7 @@ pub fn packet_out(packet: Packet) -> [u64; 7]
     ]
 }
 
+// The words of a prelude as `out` has them: its fields in offset order, and the first chunk's offset.
 pub fn prelude_out(prelude: AmvPrelude) -> [u64; 16]
     ensures { λ r. ⌜ r ≡ (0 ∷ preludeWords prelude) ⌝ }
 {

@@ -17,6 +17,7 @@ pub enum WalkerState {
     Illegal,
 }
 
+// The trailer of its word.
 fn trailer_of(word: u64) -> Trailer
     ensures { λ r. ⌜ r ≡ trailerOf word ⌝ }
 {
@@ -26,6 +27,7 @@ fn trailer_of(word: u64) -> Trailer
     Trailer::At(word)
 }
 
+// The word of a trailer.
 fn trailer_word(trailer: Trailer) -> u64
     ensures { λ r. ⌜ r ≡ trailerWord trailer ⌝ }
 {
@@ -35,12 +37,14 @@ fn trailer_word(trailer: Trailer) -> u64
     }
 }
 
+// The word of a mark: 1 for true, 0 for false.
 pub fn mark_word(mark: bool) -> u64
     ensures { λ r. ⌜ r ≡ markWord mark ⌝ }
 {
     if mark { 1 } else { 0 }
 }
 
+// The walker that seven words spell. Illegal where a mark is neither 0 nor 1, so that words no call left are refused and not guessed at.
 pub fn walker_of(words: [u64; 7]) -> WalkerState
     ensures { λ r. ⌜ saidWalker r ≡ walkerOf words ⌝ }
 {
@@ -65,6 +69,7 @@ pub fn walker_of(words: [u64; 7]) -> WalkerState
     WalkerState::Legal(walker)
 }
 
+// The seven words of a walker, as a call leaves them for the next one.
 pub fn walker_words(walker: Walker) -> [u64; 7]
     ensures { λ r. ⌜ r ≡ walkerWords walker ⌝ }
 {
@@ -81,7 +86,7 @@ pub fn walker_words(walker: Walker) -> [u64; 7]
     ]
 }
 
-// The words of the same walker at another position: the marks and the trailer stay.
+// The words of the same walker at another position: the marks and the trailer stay, so a read stores four words and not seven.
 pub fn at_position(words: [u64; 7], position: Position) -> [u64; 7]
     ensures { λ r. ⌜ r ≡ positionInto position words ⌝ }
 {

@@ -11,6 +11,7 @@ pub enum WriterState {
     Illegal,
 }
 
+// The writer that nine words spell. Illegal where a word is over its field's range, so that no cast loses bits.
 pub fn writer_of(words: [u64; 9]) -> WriterState
     ensures { λ r. ⌜ saidWriter r ≡ writerOf words ⌝ }
 {
@@ -52,6 +53,7 @@ pub fn writer_of(words: [u64; 9]) -> WriterState
     WriterState::Legal(writer)
 }
 
+// The nine words of a writer, as a call leaves them for the next one.
 pub fn writer_words(writer: Writer) -> [u64; 9]
     ensures { λ r. ⌜ r ≡ writerWords writer ⌝ }
 {
@@ -69,7 +71,7 @@ pub fn writer_words(writer: Writer) -> [u64; 9]
     ]
 }
 
-// The words of the same writer at other counts: the settings and the marks stay.
+// The words of the same writer at other counts: the settings and the marks stay, so a packet stores two words and not nine.
 pub fn at_counts(words: [u64; 9], written: u64, frames: u64) -> [u64; 9]
     ensures { λ r. ⌜ r ≡ countsInto written frames words ⌝ }
 {

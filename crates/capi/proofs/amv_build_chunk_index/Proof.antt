@@ -1,3 +1,6 @@
+-- `capi::amv_build_chunk_index` meets its contract. The table is left as the called function ensures; its result gives, by `gave`, the count or the
+-- refusal that `says-accepted` and `says-error` close.
+-- Assumes nothing.
 use mathlib.Core.Path.{refl}
 use Rattle.chunk_index.specs.Index.{saidIndex}
 use Rattle.words.proofs.Laws.{says-accepted, says-error}
@@ -6,11 +9,6 @@ use Rattle.capi.proofs.Laws.{gave}
 use borrow.Author.Needs.{needs}
 use Rattle.capi.proofs.amv_build_chunk_index.Statement.{statement}
 use Rattle.capi.proofs.amv_build_chunk_index.Tie as tie
-use Rattle.capi.proofs.amv_build_chunk_index.Reads as reads
-use Rattle.capi.proofs.amv_build_chunk_index.Lts as lts
-use Rattle.chunk_index.proofs.index.build_chunk_index.Reads as build-chunk-index-reads
-use Rattle.error.proofs.AmvError.number.Reads as number-reads
-use Rattle.error.proofs.AmvError.place.Reads as place-reads
 
 build-chunk-index-requires : tie.Need-build-chunk-index-requires
 build-chunk-index-requires c κs = search needs
@@ -38,8 +36,11 @@ same-length-2 : tie.Need-same-length-2
 same-length-2 c = search needs
 
 returns-2 : tie.Need-returns-2
-returns-2 c = let b = c .before .before .before .before .before .before .before .before .build-chunk-index .ensures in
-    (says-error 2 (c .before .before .before .before .e .given .0 .0) (gave saidIndex single (b .0) (c .before .before .before .before .e .given .1)) (c .number .ensures) (c .before .before .place .ensures), b .1)
+returns-2 c = let b = c .before .before .before .before .before .before .before .before .build-chunk-index .ensures in (
+  says-error 2 (c .before .before .before .before .e .given .0 .0) (gave saidIndex single (b .0) (c .before .before .before .before .e .given .1))
+      (c .number .ensures) (c .before .before .place .ensures),
+  b .1,
+)
 
 pub amv-build-chunk-index-spec : {M : Type 1} → statement M
 amv-build-chunk-index-spec =

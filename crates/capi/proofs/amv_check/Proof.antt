@@ -1,3 +1,6 @@
+-- `capi::amv_check` meets its contract. `gave` tells the answer by the variant of each arm. The totals are accepted as six words, the last one by what
+-- `mark_word` ensures; a refusal is said by `says-error`.
+-- Assumes nothing.
 use Rattle.recording.specs.Check.{saidCheck}
 use Rattle.words.proofs.Laws.{says-accepted, says-error}
 use Rattle.capi.specs.Calls.{totalsWords}
@@ -5,12 +8,6 @@ use Rattle.capi.proofs.Laws.{gave}
 use borrow.Author.Needs.{needs}
 use Rattle.capi.proofs.amv_check.Statement.{statement}
 use Rattle.capi.proofs.amv_check.Tie as tie
-use Rattle.capi.proofs.amv_check.Reads as reads
-use Rattle.capi.proofs.amv_check.Lts as lts
-use Rattle.error.proofs.AmvError.number.Reads as number-reads
-use Rattle.error.proofs.AmvError.place.Reads as place-reads
-use Rattle.recording.proofs.check.check.Reads as check-reads
-use Rattle.words.proofs.walker.mark_word.Reads as mark-word-reads
 
 check-requires : tie.Need-check-requires
 check-requires c κs = search needs
@@ -35,7 +32,9 @@ returns c =
     says-accepted 6 (gave saidCheck totalsWords (c .before .before .before .before .before .check .ensures) (c .before .before .before .totals .given .1)) (cc)
 
 returns-2 : tie.Need-returns-2
-returns-2 c = says-error 6 (c .before .before .before .before .e .given .0 .0) (gave saidCheck totalsWords (c .before .before .before .before .before .before .check .ensures) (c .before .before .before .before .e .given .1)) (c .number .ensures) (c .before .before .place .ensures)
+returns-2 c = says-error 6 (c .before .before .before .before .e .given .0 .0)
+    (gave saidCheck totalsWords (c .before .before .before .before .before .before .check .ensures) (c .before .before .before .before .e .given .1))
+    (c .number .ensures) (c .before .before .place .ensures)
 
 pub amv-check-spec : {M : Type 1} → statement M
 amv-check-spec =

@@ -1,12 +1,10 @@
+-- `capi::amv_from_frame_count` meets its contract. What the two calls ensure is chained: the duration of the frames, and then its packed number.
+-- Assumes nothing.
 use mathlib.Core.Path.{ap, _∙_}
 use Rattle.duration.specs.Duration.{packedOf}
 use borrow.Author.Needs.{needs}
 use Rattle.capi.proofs.amv_from_frame_count.Statement.{statement}
 use Rattle.capi.proofs.amv_from_frame_count.Tie as tie
-use Rattle.capi.proofs.amv_from_frame_count.Reads as reads
-use Rattle.capi.proofs.amv_from_frame_count.Lts as lts
-use Rattle.duration.proofs.AmvDuration.from_frame_count.Reads as from-frame-count-reads
-use Rattle.duration.proofs.AmvDuration.to_packed.Reads as to-packed-reads
 
 from-frame-count-requires : tie.Need-from-frame-count-requires
 from-frame-count-requires c κs = search needs

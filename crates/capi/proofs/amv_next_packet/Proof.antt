@@ -1,3 +1,7 @@
+-- `capi::amv_next_packet` meets its contract. Words that spell no walker are closed by `walks-illegal`. Else `walks` asks for the answer's words and
+-- the walker's: after a packet only the position has moved (`packet-moves`), so four new words are all of the walker's (`position-kept`); End and a
+-- refusal write all seven.
+-- Assumes nothing.
 use mathlib.Core.Path.{refl, sym, ap, _∙_}
 use Rattle.words.specs.State.{saidWalker, walkerWords}
 use Rattle.words.proofs.Laws.{says-accepted, says-error, packet-placed}
@@ -8,15 +12,6 @@ use Rattle.demuxer.proofs.Outcomes.{packet-moves}
 use borrow.Author.Needs.{needs}
 use Rattle.capi.proofs.amv_next_packet.Statement.{statement}
 use Rattle.capi.proofs.amv_next_packet.Tie as tie
-use Rattle.capi.proofs.amv_next_packet.Reads as reads
-use Rattle.capi.proofs.amv_next_packet.Lts as lts
-use Rattle.demuxer.proofs.walker.Walker.next_packet.Reads as next-packet-reads
-use Rattle.error.proofs.AmvError.number.Reads as number-reads
-use Rattle.error.proofs.AmvError.place.Reads as place-reads
-use Rattle.words.proofs.out.packet_out.Reads as packet-out-reads
-use Rattle.words.proofs.walker.at_position.Reads as at-position-reads
-use Rattle.words.proofs.walker.walker_of.Reads as walker-of-reads
-use Rattle.words.proofs.walker.walker_words.Reads as walker-words-reads
 
 walker-of-requires : tie.Need-walker-of-requires
 walker-of-requires c κs = search needs

@@ -1,3 +1,6 @@
+-- `capi::amv_parse` meets its contract. `gave` tells the answer by the variant of what `parsed` returned; an accepted prelude's words are those that
+-- `prelude_out` ensures.
+-- Assumes nothing.
 use Rattle.prelude.specs.Prelude.{saidPrelude}
 use Rattle.words.specs.Out.{preludeWords}
 use Rattle.words.proofs.Laws.{says-accepted, says-error}
@@ -5,12 +8,6 @@ use Rattle.capi.proofs.Laws.{gave}
 use borrow.Author.Needs.{needs}
 use Rattle.capi.proofs.amv_parse.Statement.{statement}
 use Rattle.capi.proofs.amv_parse.Tie as tie
-use Rattle.capi.proofs.amv_parse.Reads as reads
-use Rattle.capi.proofs.amv_parse.Lts as lts
-use Rattle.capi.proofs.parsed.Reads as parsed-reads
-use Rattle.error.proofs.AmvError.number.Reads as number-reads
-use Rattle.error.proofs.AmvError.place.Reads as place-reads
-use Rattle.words.proofs.out.prelude_out.Reads as prelude-out-reads
 
 parsed-requires : tie.Need-parsed-requires
 parsed-requires c κs = search needs
@@ -31,10 +28,13 @@ number-requires : tie.Need-number-requires
 number-requires c κs = search needs
 
 returns : tie.Need-returns
-returns c = says-accepted 16 (gave saidPrelude preludeWords (c .before .before .before .before .parsed .ensures) (c .before .before .prelude .given .1)) (c .prelude-out .ensures)
+returns c = says-accepted 16 (gave saidPrelude preludeWords (c .before .before .before .before .parsed .ensures) (c .before .before .prelude .given .1))
+    (c .prelude-out .ensures)
 
 returns-2 : tie.Need-returns-2
-returns-2 c = says-error 16 (c .before .before .before .before .e .given .0 .0) (gave saidPrelude preludeWords (c .before .before .before .before .before .before .parsed .ensures) (c .before .before .before .before .e .given .1)) (c .number .ensures) (c .before .before .place .ensures)
+returns-2 c = says-error 16 (c .before .before .before .before .e .given .0 .0)
+    (gave saidPrelude preludeWords (c .before .before .before .before .before .before .parsed .ensures) (c .before .before .before .before .e .given .1))
+    (c .number .ensures) (c .before .before .place .ensures)
 
 pub amv-parse-spec : {M : Type 1} → statement M
 amv-parse-spec =

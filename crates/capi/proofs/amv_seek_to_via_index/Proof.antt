@@ -1,3 +1,6 @@
+-- `capi::amv_seek_to_via_index` meets its contract. Words that spell no walker are closed by `walks-illegal`. Else the request's bits are read back as
+-- the request (`as-requested`), and `walks` takes the words of the walker sought and of the stamp or the refusal.
+-- Assumes nothing.
 use mathlib.Core.Path.{refl, ap, _∙_}
 use Rattle.seek.specs.Seek.{saidSeek}
 use Rattle.words.specs.State.{saidWalker, walkerWords}
@@ -7,13 +10,6 @@ use Rattle.capi.proofs.Laws.{known, gave, walks-illegal, walks, as-requ
 use borrow.Author.Needs.{needs}
 use Rattle.capi.proofs.amv_seek_to_via_index.Statement.{statement}
 use Rattle.capi.proofs.amv_seek_to_via_index.Tie as tie
-use Rattle.capi.proofs.amv_seek_to_via_index.Reads as reads
-use Rattle.capi.proofs.amv_seek_to_via_index.Lts as lts
-use Rattle.error.proofs.AmvError.number.Reads as number-reads
-use Rattle.error.proofs.AmvError.place.Reads as place-reads
-use Rattle.seek.proofs.seek_to_via_index.Reads as seek-to-via-index-reads
-use Rattle.words.proofs.walker.walker_of.Reads as walker-of-reads
-use Rattle.words.proofs.walker.walker_words.Reads as walker-words-reads
 
 walker-of-requires : tie.Need-walker-of-requires
 walker-of-requires c κs = search needs
@@ -53,7 +49,8 @@ returns-2 c =
     let s = c .before .before .before .before .before .before .before .before in
     let r = c .before .before .before .before .before .before .seek-to-via-index in
     let e = as-requested (a .table .now) (s .state .given .0 .0) (a .stream) (a .request) (b .fits .request) (r .ensures) in
-    walks 2 (seekAnswer (a .table .now) (a .stream) (a .request)) (seekWalker (a .table .now) (a .stream) (a .request)) _ (known saidWalker (s .before .before .walker-of .ensures) (s .state .given .1))
+    walks 2 (seekAnswer (a .table .now) (a .stream) (a .request)) (seekWalker (a .table .now) (a .stream) (a .request)) _
+    (known saidWalker (s .before .before .walker-of .ensures) (s .state .given .1))
     (says-accepted 2 (gave saidSeek single (ap (λ q. q .answer) e) (c .before .before .result .given .1)) refl)
     (c .before .before .before .before .walker-words .ensures ∙ ap (λ q. walkerWords (q .walker)) e)
 
@@ -64,8 +61,10 @@ returns-3 c =
     let s = c .before .before .before .before .before .before .before .before .before .before in
     let r = c .before .before .before .before .before .before .before .before .seek-to-via-index in
     let e = as-requested (a .table .now) (s .state .given .0 .0) (a .stream) (a .request) (b .fits .request) (r .ensures) in
-    walks 2 (seekAnswer (a .table .now) (a .stream) (a .request)) (seekWalker (a .table .now) (a .stream) (a .request)) _ (known saidWalker (s .before .before .walker-of .ensures) (s .state .given .1))
-    (says-error 2 (c .before .before .before .before .result2 .given .0 .0) (gave saidSeek single (ap (λ q. q .answer) e) (c .before .before .before .before .result2 .given .1)) (c .number .ensures)
+    walks 2 (seekAnswer (a .table .now) (a .stream) (a .request)) (seekWalker (a .table .now) (a .stream) (a .request)) _
+    (known saidWalker (s .before .before .walker-of .ensures) (s .state .given .1))
+    (says-error 2 (c .before .before .before .before .result2 .given .0 .0)
+    (gave saidSeek single (ap (λ q. q .answer) e) (c .before .before .before .before .result2 .given .1)) (c .number .ensures)
     (c .before .before .place .ensures))
     (c .before .before .before .before .before .before .walker-words .ensures ∙ ap (λ q. walkerWords (q .walker)) e)
 

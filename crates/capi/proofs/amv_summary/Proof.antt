@@ -1,3 +1,6 @@
+-- `capi::amv_summary` meets its contract. `gave` turns the variant of each arm into the answer's words; `says-accepted` and `says-error` then read off
+-- what is returned and written.
+-- Assumes nothing.
 use mathlib.Core.Path.{refl}
 use Rattle.chunk_index.specs.Index.{saidSummary}
 use Rattle.words.proofs.Laws.{says-accepted, says-error}
@@ -6,11 +9,6 @@ use Rattle.capi.proofs.Laws.{gave}
 use borrow.Author.Needs.{needs}
 use Rattle.capi.proofs.amv_summary.Statement.{statement}
 use Rattle.capi.proofs.amv_summary.Tie as tie
-use Rattle.capi.proofs.amv_summary.Reads as reads
-use Rattle.capi.proofs.amv_summary.Lts as lts
-use Rattle.chunk_index.proofs.index.summary.Reads as summary-reads
-use Rattle.error.proofs.AmvError.number.Reads as number-reads
-use Rattle.error.proofs.AmvError.place.Reads as place-reads
 
 summary-requires : tie.Need-summary-requires
 summary-requires c κs = search needs
@@ -31,7 +29,9 @@ returns : tie.Need-returns
 returns c = says-accepted 3 (gave saidSummary countsWords (c .before .before .before .before .summary .ensures) (c .before .before .counts .given .1)) refl
 
 returns-2 : tie.Need-returns-2
-returns-2 c = says-error 3 (c .before .before .before .before .e .given .0 .0) (gave saidSummary countsWords (c .before .before .before .before .before .before .summary .ensures) (c .before .before .before .before .e .given .1)) (c .number .ensures) (c .before .before .place .ensures)
+returns-2 c = says-error 3 (c .before .before .before .before .e .given .0 .0)
+    (gave saidSummary countsWords (c .before .before .before .before .before .before .summary .ensures) (c .before .before .before .before .e .given .1))
+    (c .number .ensures) (c .before .before .place .ensures)
 
 pub amv-summary-spec : {M : Type 1} → statement M
 amv-summary-spec =

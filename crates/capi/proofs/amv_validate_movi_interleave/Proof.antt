@@ -1,10 +1,8 @@
+-- `capi::amv_validate_movi_interleave` meets its contract. `result_out` says the answer of the called function, which is the definition's.
+-- Assumes nothing.
 use borrow.Author.Needs.{needs}
 use Rattle.capi.proofs.amv_validate_movi_interleave.Statement.{statement}
 use Rattle.capi.proofs.amv_validate_movi_interleave.Tie as tie
-use Rattle.capi.proofs.amv_validate_movi_interleave.Reads as reads
-use Rattle.capi.proofs.amv_validate_movi_interleave.Lts as lts
-use Rattle.chunk.proofs.interleave.validate_movi_interleave.Reads as validate-movi-interleave-reads
-use Rattle.words.proofs.out.result_out.Reads as result-out-reads
 
 validate-movi-interleave-requires : tie.Need-validate-movi-interleave-requires
 validate-movi-interleave-requires c κs = search needs

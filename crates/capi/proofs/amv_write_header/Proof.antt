@@ -1,15 +1,12 @@
+-- `capi::amv_write_header` meets its contract. Words that spell no writer are closed by `writes-illegal`; else `writes` takes what `write_header`,
+-- `writer_words` and `result_out` ensure.
+-- Assumes nothing.
 use Rattle.muxer.specs.Writer.{headerCall}
 use Rattle.words.specs.State.{saidWriter}
 use Rattle.capi.proofs.Laws.{known, writes, writes-illegal}
 use borrow.Author.Needs.{needs}
 use Rattle.capi.proofs.amv_write_header.Statement.{statement}
 use Rattle.capi.proofs.amv_write_header.Tie as tie
-use Rattle.capi.proofs.amv_write_header.Reads as reads
-use Rattle.capi.proofs.amv_write_header.Lts as lts
-use Rattle.muxer.proofs.Writer.write_header.Reads as write-header-reads
-use Rattle.words.proofs.out.result_out.Reads as result-out-reads
-use Rattle.words.proofs.writer.writer_of.Reads as writer-of-reads
-use Rattle.words.proofs.writer.writer_words.Reads as writer-words-reads
 
 writer-of-requires : tie.Need-writer-of-requires
 writer-of-requires c κs = search needs

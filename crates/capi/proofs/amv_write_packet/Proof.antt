@@ -1,3 +1,6 @@
+-- `capi::amv_write_packet` meets its contract. Words that spell no writer are closed by `writes-illegal`. Else a packet moves the two counts alone, so
+-- `packet-words` makes the words stored all of the writer's, and `writes` takes them with the answer of either arm.
+-- Assumes nothing.
 use mathlib.Core.Path.{refl, ap}
 use Rattle.error.specs.Refusal.{said}
 use Rattle.muxer.specs.Writer.{packetCall}
@@ -8,13 +11,6 @@ use Rattle.capi.proofs.Laws.{known, packet-words, writes, writes-illega
 use borrow.Author.Needs.{needs}
 use Rattle.capi.proofs.amv_write_packet.Statement.{statement}
 use Rattle.capi.proofs.amv_write_packet.Tie as tie
-use Rattle.capi.proofs.amv_write_packet.Reads as reads
-use Rattle.capi.proofs.amv_write_packet.Lts as lts
-use Rattle.error.proofs.AmvError.number.Reads as number-reads
-use Rattle.error.proofs.AmvError.place.Reads as place-reads
-use Rattle.muxer.proofs.Writer.write_packet.Reads as write-packet-reads
-use Rattle.words.proofs.writer.at_counts.Reads as at-counts-reads
-use Rattle.words.proofs.writer.writer_of.Reads as writer-of-reads
 
 writer-of-requires : tie.Need-writer-of-requires
 writer-of-requires c κs = search needs
@@ -73,7 +69,8 @@ returns-3 c =
     let legal = known saidWriter (s .before .before .writer-of .ensures) (s .state .given .1) in
     writes (λ w. packetCall w (a .payload .now) (a .stream) (a .buf .now)) (a .writer .now) (a .buf .now) legal (m .write-packet .ensures)
     (packet-words (a .writer .now) (a .buf .now) (a .payload .now) (a .stream) legal (m .write-packet .ensures) (w .at-counts .ensures))
-    (says-error 1 (c .before .before .before .before .result .given .0 .0) (ap (λ r. checked (said r)) (c .before .before .before .before .result .given .1)) (c .number .ensures) (c .before .before .place .ensures))
+    (says-error 1 (c .before .before .before .before .result .given .0 .0) (ap (λ r. checked (said r)) (c .before .before .before .before .result .given .1))
+    (c .number .ensures) (c .before .before .place .ensures))
 
 pub amv-write-packet-spec : {M : Type 1} → statement M
 amv-write-packet-spec =

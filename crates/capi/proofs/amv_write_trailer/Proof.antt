@@ -1,15 +1,12 @@
+-- `capi::amv_write_trailer` meets its contract. Words that spell no writer are closed by `writes-illegal`; else `writes` takes what `write_trailer`,
+-- `writer_words` and `result_out` ensure.
+-- Assumes nothing.
 use Rattle.muxer.specs.Writer.{trailerCall}
 use Rattle.words.specs.State.{saidWriter}
 use Rattle.capi.proofs.Laws.{known, writes, writes-illegal}
 use borrow.Author.Needs.{needs}
 use Rattle.capi.proofs.amv_write_trailer.Statement.{statement}
 use Rattle.capi.proofs.amv_write_trailer.Tie as tie
-use Rattle.capi.proofs.amv_write_trailer.Reads as reads
-use Rattle.capi.proofs.amv_write_trailer.Lts as lts
-use Rattle.muxer.proofs.Writer.write_trailer.Reads as write-trailer-reads
-use Rattle.words.proofs.out.result_out.Reads as result-out-reads
-use Rattle.words.proofs.writer.writer_of.Reads as writer-of-reads
-use Rattle.words.proofs.writer.writer_words.Reads as writer-words-reads
 
 writer-of-requires : tie.Need-writer-of-requires
 writer-of-requires c κs = search needs

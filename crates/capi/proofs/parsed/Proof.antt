@@ -1,10 +1,8 @@
+-- `capi::parsed` meets its contract. Each arm rewrites the choice by the flag that it has tested, and returns what the parse that it calls ensures.
+-- Assumes nothing.
 use borrow.Author.Needs.{needs}
 use Rattle.capi.proofs.parsed.Statement.{statement}
 use Rattle.capi.proofs.parsed.Tie as tie
-use Rattle.capi.proofs.parsed.Reads as reads
-use Rattle.capi.proofs.parsed.Lts as lts
-use Rattle.prelude.proofs.prelude.AmvPrelude.parse.Reads as parse-reads
-use Rattle.prelude.proofs.prelude.AmvPrelude.parse_strict.Reads as parse-strict-reads
 
 parse-strict-requires : tie.Need-parse-strict-requires
 parse-strict-requires c κs = search needs

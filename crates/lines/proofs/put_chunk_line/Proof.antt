@@ -1,4 +1,6 @@
--- The line is its words, each put where the one before it ends.
+-- `lines::put_chunk_line` meets its contract. Each call writes where the one before it ended, so `join` makes one word of the six, and that word is
+-- `chunkLine`; the ends add up to 86 at most.
+-- Assumes nothing.
 use Rattle.lines.specs.Lines.{chunkLine}
 use Rattle.lines.proofs.Laws.{join}
 use native.Mathlib.Omega.{arith}

@@ -1,5 +1,7 @@
--- The invariant: the digits of what is left, and those that stand already, are the digits of the number.
-use mathlib.Core.Path.{_≡_, sym}
+-- `lines::put_digits` meets its contract. The invariant of its loop: the digits of `rest` and then the bytes past `i` are the digits of the number,
+-- and `rest` is below 10 ^ (i + 1). The measure is `i`. `turn` moves one digit, `more` keeps `i` from 0, and `last` puts the first digit.
+-- Assumes nothing.
+use mathlib.Core.Path.{_≡_}
 use mathlib.Core.List.{_++_}
 use Prim.Native.Nat.{_+_, _^_, _≤_, _<_}
 use native.Mathlib.Omega.{arith}

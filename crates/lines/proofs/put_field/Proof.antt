@@ -1,4 +1,5 @@
--- The name is put first, and the number where it ends.
+-- `lines::put_field` meets its contract. The number is put where the name ends, and `join` makes the two one word.
+-- Assumes nothing.
 use native.Mathlib.Omega.{arith}
 use Rattle.lines.proofs.Laws.{join}
 use borrow.Author.Needs.{needs}

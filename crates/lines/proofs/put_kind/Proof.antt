@@ -1,4 +1,5 @@
--- Either letter is what the definition gives for that kind.
+-- `lines::put_kind` meets its contract. Each arm puts the letter that `kind` gives for the flag that it has tested.
+-- Assumes nothing.
 use native.Mathlib.Omega.{arith}
 use borrow.Author.Needs.{needs}
 use Rattle.lines.proofs.put_kind.Statement.{statement}

@@ -1,4 +1,5 @@
--- The line is one word.
+-- `lines::put_long_line` meets its contract. The bytes that it puts are `longLine`, unfolded.
+-- Assumes nothing.
 use native.Mathlib.Omega.{arith}
 use borrow.Author.Needs.{needs}
 use Rattle.lines.specs.Lines.{longLine}

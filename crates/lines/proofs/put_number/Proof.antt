@@ -1,4 +1,6 @@
--- A space is put first, and then the last of the 20 digits.
+-- `lines::put_number` meets its contract. `join` makes one word of the space and of the array from the first digit on, which by `tail` are all of the
+-- digits that `put_digits` left there.
+-- Assumes nothing.
 use mathlib.Core.Path.{ap, _∙_}
 use mathlib.Core.List.{List, _∷_}
 use Prim.Native.Nat.{ℕ, _-_}

@@ -1,4 +1,5 @@
--- Either word is what the definition gives for that answer.
+-- `lines::put_paired` meets its contract. Each arm puts the end of the line with the letter that `yesNo` gives for the flag that it has tested.
+-- Assumes nothing.
 use native.Mathlib.Omega.{arith}
 use borrow.Author.Needs.{needs}
 use Rattle.lines.proofs.put_paired.Statement.{statement}

@@ -1,4 +1,6 @@
--- The line is its words, each put where the one before it ends.
+-- `lines::put_refusal_line` meets its contract. `NO` with its number, the place and the line feed stand end to end, and `join` makes them
+-- `refusalLine`.
+-- Assumes nothing.
 use Rattle.lines.specs.Lines.{refusalLine}
 use Rattle.lines.proofs.Laws.{join}
 use native.Mathlib.Omega.{arith}

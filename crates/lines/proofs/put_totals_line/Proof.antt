@@ -1,4 +1,6 @@
--- The line is its fields, each put where the one before it ends.
+-- `lines::put_totals_line` meets its contract. Four fields with their names and the paired word stand end to end, and `join` makes them `totalsLine`;
+-- the ends add up to 119 at most.
+-- Assumes nothing.
 use Rattle.lines.specs.Lines.{totalsLine}
 use Rattle.lines.proofs.Laws.{join}
 use native.Mathlib.Omega.{arith}

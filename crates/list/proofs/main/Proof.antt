@@ -1,4 +1,6 @@
--- What was read lies within the input's bytes, and the listing within those of its buffer.
+-- `list::main` is safe; it has no contract of its own. What was read is at most the array's length, and `ends-within` says that the listing ends
+-- within its buffer.
+-- Assumes nothing.
 use mathlib.Core.Path.{sym}
 use lib.Seq.{length-take-le}
 use borrow.Author.Needs.{needs}

@@ -1,4 +1,6 @@
--- Either side of the limit gives the definition's lines.
+-- `listing::list` meets its contract. The test of the length is the definition's: past the limit `long-listed` says that the listing is the one long
+-- line, and within it `checked-listed` that it is the checked lines.
+-- Assumes nothing.
 use mathlib.Core.Path.{refl}
 use native.Mathlib.Omega.{arith}
 use borrow.Author.Needs.{needs}

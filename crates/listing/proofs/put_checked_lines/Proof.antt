@@ -1,4 +1,6 @@
--- The check's answer is the definition's; the totals are put where the chunks' lines end.
+-- `listing::put_checked_lines` meets its contract. The check's answer is the definition's, so each arm knows which lines are due. Where it accepts,
+-- nothing is missing of any chunk (`accepted-whole`), and `join` puts the totals where the chunks' lines end.
+-- Assumes nothing.
 use mathlib.Core.Path.{sym, ap, _∙_}
 use borrow.Author.Needs.{needs}
 use Rattle.lines.proofs.Laws.{join}

@@ -1,4 +1,7 @@
--- The invariant: the walker stands at a chunk or past the last one, and what is written and the lines that are left are all the lines.
+-- `listing::put_chunk_lines` meets its contract. The invariant of its loop: the walker stands at a chunk or past the last (`Stands`), and the bytes
+-- that are written and the lines that are left are all of the lines (`Listing`). The measure is the input limit less the cursor. `read-means` turns
+-- each read into one more line (`listing-more`) or into the end (`listing-ends`).
+-- Assumes nothing.
 use mathlib.Core.Path.{_≡_, refl, sym, subst}
 use mathlib.Core.Logic.{_⊎_, ⊎-elim}
 use mathlib.Core.List.{List, []}

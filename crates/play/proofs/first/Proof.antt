@@ -1,4 +1,5 @@
--- `first` meets its contract.
+-- `play::first` meets its contract. Where the length fits the part is that `take`, and where it does not `take-all` says that `take` keeps every byte.
+-- Assumes nothing.
 use mathlib.Core.Path.{sym}
 use native.Mathlib.Omega.{arith}
 use lib.Seq.{length-take-le, take-all}

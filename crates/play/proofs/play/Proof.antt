@@ -1,4 +1,6 @@
--- `play` meets its contract: each turn takes one from what is left, and what is left to play stays what it was.
+-- `play::play` meets its contract. The invariant of its loop: what is left to be played from here ends in the walker that playing all of it ends in.
+-- The measure is the number of reads left. `played-step` takes one read off, and `played-none` closes the loop that has used up all.
+-- Assumes nothing.
 use mathlib.Core.Path.{_≡_, refl, sym, _∙_}
 use borrow.Author.Needs.{needs}
 use Rattle.play.specs.Recording.{played}
@@ -31,13 +33,19 @@ loop-less : tie.Need-loop-less Inv-loop μ-loop
 loop-less c = search needs
 
 loop-again : tie.Need-loop-again Inv-loop μ-loop
-loop-again c = sym (played-step _ _ _ _ _ (c .before .before .before .before .before .before .loop-test .taken) (c .before .before .before .before .before .next-packet .ensures .0) (c .before .before .answer .given .1)) ∙ c .before .before .before .before .before .before .before .loop .inv
+loop-again c =
+    let r = c .before .before .before .before .before in
+    sym (played-step _ _ _ _ _ (r .before .loop-test .taken) (r .next-packet .ensures .0) (c .before .before .answer .given .1))
+    ∙ r .before .before .loop .inv
 
 enum-told : tie.Need-enum-told Inv-loop μ-loop
 enum-told c = search needs
 
 returns : tie.Need-returns Inv-loop μ-loop
-returns c = sym (played-step _ _ _ _ _ (c .before .before .before .before .loop-test .taken) (c .before .before .before .next-packet .ensures .0) (c .enum-told .given .1)) ∙ c .before .before .before .before .before .loop .inv
+returns c =
+    let r = c .before .before .before in
+    sym (played-step _ _ _ _ _ (r .before .loop-test .taken) (r .next-packet .ensures .0) (c .enum-told .given .1))
+    ∙ r .before .before .loop .inv
 
 enum-known-answer-2 : tie.Need-enum-known-answer-2 Inv-loop μ-loop
 enum-known-answer-2 c = search needs
@@ -52,7 +60,10 @@ print-refusal-requires : tie.Need-print-refusal-requires Inv-loop μ-loop
 print-refusal-requires c κs = search needs
 
 returns-2 : tie.Need-returns-2 Inv-loop μ-loop
-returns-2 c = sym (played-step _ _ _ _ _ (c .before .before .before .before .before .before .before .before .loop-test .taken) (c .before .before .before .before .before .before .before .next-packet .ensures .0) (c .before .before .before .before .answer2 .given .1)) ∙ c .before .before .before .before .before .before .before .before .before .loop .inv
+returns-2 c =
+    let r = c .before .before .before .before .before .before .before in
+    sym (played-step _ _ _ _ _ (r .before .loop-test .taken) (r .next-packet .ensures .0) (c .before .before .before .before .answer2 .given .1))
+    ∙ r .before .before .loop .inv
 
 returns-3 : tie.Need-returns-3 Inv-loop μ-loop
 returns-3 c = played-none _ _ _ (c .loop-test .left) ∙ c .before .loop .inv

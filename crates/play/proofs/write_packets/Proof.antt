@@ -1,4 +1,5 @@
--- `write_packets` meets its contract.
+-- `play::write_packets` meets its contract. `onwards` sets the second pair after the first, and the packet of no stream after both.
+-- Assumes nothing.
 use mathlib.Core.List.{[], _∷_}
 use Rattle.muxer.specs.Writer.{packetCall}
 use Rattle.play.specs.Recording.{pairOf}
@@ -38,7 +39,14 @@ same-length : tie.Need-same-length
 same-length c = search needs
 
 returns : tie.Need-returns
-returns c = onwards (λ w buf. packetCall w (110 ∷ 111 ∷ 110 ∷ 101 ∷ []) 2 buf) _ (onwards (λ w buf. pairOf w buf (116 ∷ 104 ∷ 114 ∷ 101 ∷ 101 ∷ []) (0 ∷ 0 ∷ 0 ∷ 0 ∷ 3 ∷ 0 ∷ 0 ∷ 0 ∷ 7 ∷ 7 ∷ 7 ∷ [])) _ (c .before .before .before .before .before .before .before .before .before .before .before .before .before .before .write-pair .ensures) (c .before .before .before .before .before .before .before .before .write-pair2 .ensures)) (c .before .before .write-packet .ensures)
+returns c =
+    let none = c .before .before in
+    let second = none .before .before .before .before .before .before in
+    let first = second .before .before .before .before .before .before in
+    onwards (λ w buf. packetCall w (110 ∷ 111 ∷ 110 ∷ 101 ∷ []) 2 buf) _
+    (onwards (λ w buf. pairOf w buf (116 ∷ 104 ∷ 114 ∷ 101 ∷ 101 ∷ []) (0 ∷ 0 ∷ 0 ∷ 0 ∷ 3 ∷ 0 ∷ 0 ∷ 0 ∷ 7 ∷ 7 ∷ 7 ∷ [])) _
+    (first .write-pair .ensures) (second .write-pair2 .ensures))
+    (none .write-packet .ensures)
 
 pub write-packets-spec : {M : Type 1} → statement M
 write-packets-spec =

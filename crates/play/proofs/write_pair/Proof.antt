@@ -1,4 +1,5 @@
--- `write_pair` meets its contract.
+-- `play::write_pair` meets its contract. The sound is written on what the frame left, so `onwards` gives the outcome of one after the other.
+-- Assumes nothing.
 use Rattle.muxer.specs.Writer.{packetCall}
 use Rattle.play.proofs.Laws.{onwards}
 use borrow.Author.Needs.{needs}
@@ -21,7 +22,11 @@ same-length : tie.Need-same-length
 same-length c = search needs
 
 returns : tie.Need-returns
-returns c = onwards (λ w buf. packetCall w (c .before .before .before .before .before .before .before .before .before .before .before .before .before .args .block .now) 1 buf) _ (c .before .before .before .before .before .before .before .write-packet .ensures) (c .before .before .write-packet2 .ensures)
+returns c =
+    let sound = c .before .before in
+    let frame = sound .before .before .before .before .before in
+    let a = frame .before .before .before .before .before .before .args in
+    onwards (λ w buf. packetCall w (a .block .now) 1 buf) _ (frame .write-packet .ensures) (sound .write-packet2 .ensures)
 
 pub write-pair-spec : {M : Type 1} → statement M
 write-pair-spec =

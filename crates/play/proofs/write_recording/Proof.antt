@@ -1,7 +1,9 @@
--- `write_recording` meets its contract.
+-- `play::write_recording` meets its contract. `kept` says that printing an answer changes nothing, and `onwards` sets the packets after the header and
+-- the trailer after them, starting from a fresh writer.
+-- Assumes nothing.
 use mathlib.Core.Path.{refl}
 use Rattle.error.specs.Answer.{accepted}
-use Rattle.muxer.specs.Writer.{headerCall, trailerCall, fresh}
+use Rattle.muxer.specs.Writer.{Outcome, headerCall, trailerCall, fresh}
 use Rattle.play.specs.Recording.{settings, packetsOf}
 use Rattle.play.proofs.Laws.{onwards, kept}
 use borrow.Author.Needs.{needs}
@@ -37,13 +39,14 @@ same-length c = search needs
 
 returns : tie.Need-returns
 returns c =
-    onwards trailerCall _
-    (onwards packetsOf _
-    (onwards headerCall (record { answer = accepted tt; writer = fresh settings; buffer = c .before .before .before .before .before .before .before .before .before .before .before .before .before .before .before .before .before .before .before .before .before .args .buf .now })
-    (record { writer = c .before .before .before .before .before .before .before .before .before .before .before .before .before .before .before .before .before .before .before .new .ensures; buffer = refl })
-    (kept _ (c .before .before .before .before .before .before .before .before .before .before .before .before .before .before .before .before .write-header .ensures)))
-    (c .before .before .before .before .before .before .before .before .before .write-packets .ensures))
-    (kept _ (c .before .before .before .before .before .write-trailer .ensures))
+    let trailer = c .before .before .before .before .before in
+    let packets = trailer .before .before .before .before in
+    let header = packets .before .before .before .before .before .before .before in
+    let new = header .before .before .before in
+    let a = new .before .before .args in
+    let start : Outcome = record { answer = accepted tt; writer = fresh settings; buffer = a .buf .now } in
+    let begun = onwards headerCall start (record { writer = new .new .ensures; buffer = refl }) (kept _ (header .write-header .ensures)) in
+    onwards trailerCall _ (onwards packetsOf _ begun (packets .write-packets .ensures)) (kept _ (trailer .write-trailer .ensures))
 
 pub write-recording-spec : {M : Type 1} → statement M
 write-recording-spec =

@@ -1,4 +1,5 @@
--- `movi_interleave_balanced` meets its contract.
+-- `amv::progress::movi_interleave_balanced` meets its contract. The test is of the two counts that the called functions ensure.
+-- Assumes nothing.
 use mathlib.Core.Path.{ap₂}
 use borrow.Author.Needs.{needs}
 use lib.Dec.{eqb}

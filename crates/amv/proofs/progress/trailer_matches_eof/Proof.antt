@@ -1,4 +1,6 @@
--- `trailer_matches_eof` meets its contract: the sum is asked as a difference.
+-- `amv::progress::trailer_matches_eof` meets its contract. The code asks for a difference where the definition asks for a sum: below 8 the sum is
+-- larger than the length (`past-end`), and from 8 on the two tests are one (`same-end`).
+-- Assumes nothing.
 use mathlib.Core.Path.{_≡_, refl, sym, ap, _∙_}
 use mathlib.Core.Bool.{Bool, true, false}
 use Prim.Native.Nat.{ℕ, _+_, _-_, _<_, _≤_}

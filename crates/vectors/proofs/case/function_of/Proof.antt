@@ -1,9 +1,9 @@
+-- `vectors::case::function_of` meets its contract. Each arm rewrites the choice by the test that it has made, and the number is below 13 in both.
+-- Assumes nothing.
 use native.Mathlib.Omega.{arith}
 use borrow.Author.Tests.{lt-ltb, le-ltb}
 use Rattle.vectors.proofs.case.function_of.Statement.{statement}
 use Rattle.vectors.proofs.case.function_of.Tie as tie
-use Rattle.vectors.proofs.case.function_of.Reads as reads
-use Rattle.vectors.proofs.case.function_of.Lts as lts
 
 returns : tie.Need-returns
 returns c = (rw (lt-ltb _ _ (c .if1 .taken)), c .if1 .taken)

@@ -1,10 +1,10 @@
+-- `vectors::case::head_of` meets its contract. The twelve words are what the twelve reads ensure, one by one; each read lies within the 113 bytes that
+-- `requires` gives.
+-- Assumes nothing.
 use mathlib.Core.List.{[], _∷_}
 use borrow.Author.Needs.{needs}
 use Rattle.vectors.proofs.case.head_of.Statement.{statement}
 use Rattle.vectors.proofs.case.head_of.Tie as tie
-use Rattle.vectors.proofs.case.head_of.Reads as reads
-use Rattle.vectors.proofs.case.head_of.Lts as lts
-use Rattle.fields.proofs.read_u64_le.Reads as read-u64-le-reads
 
 add-read-u64-le : tie.Need-add-read-u64-le
 add-read-u64-le c = search needs
@@ -80,7 +80,14 @@ read-u64-le-requires-12 c κs = search needs
 
 returns : tie.Need-returns
 returns c =
-    λ i. c .before .before .before .before .before .before .before .before .before .before .before .read-u64-le .ensures i ∷ c .before .before .before .before .before .before .before .before .before .before .read-u64-le2 .ensures i ∷ c .before .before .before .before .before .before .before .before .before .read-u64-le3 .ensures i ∷ c .before .before .before .before .before .before .before .before .read-u64-le4 .ensures i ∷ c .before .before .before .before .before .before .before .read-u64-le5 .ensures i ∷ c .before .before .before .before .before .before .read-u64-le6 .ensures i ∷ c .before .before .before .before .before .read-u64-le7 .ensures i ∷ c .before .before .before .before .read-u64-le8 .ensures i ∷ c .before .before .before .read-u64-le9 .ensures i ∷ c .before .before .read-u64-le10 .ensures i ∷ c .before .read-u64-le11 .ensures i ∷ c .read-u64-le12 .ensures i ∷ []
+    λ i. c .before .before .before .before .before .before .before .before .before .before .before .read-u64-le .ensures i
+    ∷ c .before .before .before .before .before .before .before .before .before .before .read-u64-le2 .ensures i
+    ∷ c .before .before .before .before .before .before .before .before .before .read-u64-le3 .ensures i
+    ∷ c .before .before .before .before .before .before .before .before .read-u64-le4 .ensures i
+    ∷ c .before .before .before .before .before .before .before .read-u64-le5 .ensures i
+    ∷ c .before .before .before .before .before .before .read-u64-le6 .ensures i ∷ c .before .before .before .before .before .read-u64-le7 .ensures i
+    ∷ c .before .before .before .before .read-u64-le8 .ensures i ∷ c .before .before .before .read-u64-le9 .ensures i
+    ∷ c .before .before .read-u64-le10 .ensures i ∷ c .before .read-u64-le11 .ensures i ∷ c .read-u64-le12 .ensures i ∷ []
 
 pub head-of-spec : {M : Type 1} → statement M
 head-of-spec =

@@ -1,11 +1,10 @@
+-- `vectors::print::print_bytes` is safe and ends. The invariant of its loop: `i` is at most the number of bytes. The measure is that number less `i`.
+-- Assumes nothing.
 use Prim.Native.Nat.{_≤_, _-_}
 use borrow.Author.Needs.{needs}
 use lib.ListN.{length}
 use Rattle.vectors.proofs.print.print_bytes.Statement.{statement}
 use Rattle.vectors.proofs.print.print_bytes.Tie as tie
-use Rattle.vectors.proofs.print.print_bytes.Reads as reads
-use Rattle.vectors.proofs.print.print_bytes.Lts as lts
-use Rattle.vectors.proofs.print.print_byte.Reads as print-byte-reads
 
 abbrev Inv-loop : tie.InvT-loop
 Inv-loop bytes i₀ i = i ≤ length bytes

@@ -1,13 +1,11 @@
+-- `vectors::print::print_number` is safe. `put_number` ends within 21 bytes, so the part that is printed lies within the 24.
+-- Assumes nothing.
 use mathlib.Core.Path.{sym}
 use native.Mathlib.Omega.{arith}
 use lib.Seq.{length-take-le}
 use borrow.Author.Needs.{needs}
 use Rattle.vectors.proofs.print.print_number.Statement.{statement}
 use Rattle.vectors.proofs.print.print_number.Tie as tie
-use Rattle.vectors.proofs.print.print_number.Reads as reads
-use Rattle.vectors.proofs.print.print_number.Lts as lts
-use Rattle.io.proofs.write_all.Reads as write-all-reads
-use Rattle.lines.proofs.put_number.Reads as put-number-reads
 
 slice-aggregate-put-number : tie.Need-slice-aggregate-put-number
 slice-aggregate-put-number c = search needs

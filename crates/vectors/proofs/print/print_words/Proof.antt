@@ -1,11 +1,10 @@
+-- `vectors::print::print_words` is safe and ends. The invariant of its loop: `i` is at most the number of words. The measure is that number less `i`.
+-- Assumes nothing.
 use Prim.Native.Nat.{_≤_, _-_}
 use borrow.Author.Needs.{needs}
 use lib.ListN.{length}
 use Rattle.vectors.proofs.print.print_words.Statement.{statement}
 use Rattle.vectors.proofs.print.print_words.Tie as tie
-use Rattle.vectors.proofs.print.print_words.Reads as reads
-use Rattle.vectors.proofs.print.print_words.Lts as lts
-use Rattle.vectors.proofs.print.print_number.Reads as print-number-reads
 
 abbrev Inv-loop : tie.InvT-loop
 Inv-loop words i₀ i = i ≤ length words

@@ -1,3 +1,6 @@
+-- `vectors::run::load` meets its contract. The length is the smaller of the two, so the part lies within the case's bytes and its copy within the
+-- array.
+-- Assumes nothing.
 use mathlib.Core.Path.{sym}
 use native.Mathlib.Omega.{arith}
 use lib.ListN.{length-take}
@@ -5,10 +8,6 @@ use lib.Seq.{length-take-le}
 use borrow.Author.Needs.{needs}
 use Rattle.vectors.proofs.run.load.Statement.{statement}
 use Rattle.vectors.proofs.run.load.Tie as tie
-use Rattle.vectors.proofs.run.load.Reads as reads
-use Rattle.vectors.proofs.run.load.Lts as lts
-use Rattle.fields.proofs.copy_in.Reads as copy-in-reads
-use Rattle.vectors.proofs.run.least.Reads as least-reads
 
 least-requires : tie.Need-least-requires
 least-requires c κs = search needs

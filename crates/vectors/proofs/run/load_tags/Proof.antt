@@ -1,3 +1,6 @@
+-- `vectors::run::load_tags` meets its contract. The invariant of its loop: the array has the first `i` tags at its front (`Loading`). The measure is
+-- the count less `i`. `tags-more` stores one tag.
+-- Assumes nothing.
 use mathlib.Core.Path.{_≡_, refl, ap, _∙_}
 use Prim.Native.Nat.{ℕ, _-_}
 use native.Mathlib.Omega.{arith}
@@ -8,10 +11,6 @@ use Rattle.vectors.specs.Cases.{tagsIn}
 use Rattle.vectors.proofs.Tags.{Loading, tags-first, tags-more}
 use Rattle.vectors.proofs.run.load_tags.Statement.{statement}
 use Rattle.vectors.proofs.run.load_tags.Tie as tie
-use Rattle.vectors.proofs.run.load_tags.Reads as reads
-use Rattle.vectors.proofs.run.load_tags.Lts as lts
-use Rattle.fields.proofs.read_u32_le.Reads as read-u32-le-reads
-use Rattle.vectors.proofs.run.least.Reads as least-reads
 
 abbrev Inv-loop : tie.InvT-loop
 Inv-loop to₀ bytes count i₀ to i = Loading to₀ bytes count to i

@@ -1,3 +1,6 @@
+-- `vectors::run::request_of` meets its contract. Each return rewrites the choice by the tests before it; the last one's number is below 2^63, so the
+-- cast keeps it (`toZ-pos`).
+-- Assumes nothing.
 use Prim.Native.Nat.{_%_}
 use native.Mathlib.Omega.{arith}
 use mir.Syntax.{w64}
@@ -6,8 +9,6 @@ use borrow.Author.Tests.{eq-eqb, ne-eqb}
 use borrow.Author.Needs.{needs}
 use Rattle.vectors.proofs.run.request_of.Statement.{statement}
 use Rattle.vectors.proofs.run.request_of.Tie as tie
-use Rattle.vectors.proofs.run.request_of.Reads as reads
-use Rattle.vectors.proofs.run.request_of.Lts as lts
 
 returns : tie.Need-returns
 returns c = rw (eq-eqb _ _ (c .if1 .taken))

@@ -1,14 +1,12 @@
+-- `vectors::run::run_case` is safe; it has no contract of its own. `load` answers at most the array's length, so the part that is lent lies within the
+-- array.
+-- Assumes nothing.
 use mathlib.Core.Path.{sym}
 use native.Mathlib.Omega.{arith}
 use lib.Seq.{length-take-le}
 use borrow.Author.Needs.{needs}
 use Rattle.vectors.proofs.run.run_case.Statement.{statement}
 use Rattle.vectors.proofs.run.run_case.Tie as tie
-use Rattle.vectors.proofs.run.run_case.Reads as reads
-use Rattle.vectors.proofs.run.run_case.Lts as lts
-use Rattle.vectors.proofs.run.load.Reads as load-reads
-use Rattle.vectors.proofs.run.run_reading.Reads as run-reading-reads
-use Rattle.vectors.proofs.run.run_writing.Reads as run-writing-reads
 
 run-reading-requires : tie.Need-run-reading-requires
 run-reading-requires c κs = search needs

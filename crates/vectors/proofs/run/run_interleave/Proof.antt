@@ -1,16 +1,12 @@
+-- `vectors::run::run_interleave` is safe; it has no contract of its own. `load_tags` answers at most the array's length, so the part that is lent lies
+-- within the array.
+-- Assumes nothing.
 use mathlib.Core.Path.{sym}
 use native.Mathlib.Omega.{arith}
 use lib.Seq.{length-take-le}
 use borrow.Author.Needs.{needs}
 use Rattle.vectors.proofs.run.run_interleave.Statement.{statement}
 use Rattle.vectors.proofs.run.run_interleave.Tie as tie
-use Rattle.vectors.proofs.run.run_interleave.Reads as reads
-use Rattle.vectors.proofs.run.run_interleave.Lts as lts
-use Rattle.capi.proofs.amv_validate_movi_interleave.Reads as amv-validate-movi-interleave-reads
-use Rattle.vectors.proofs.print.print_1.Reads as print-1-reads
-use Rattle.vectors.proofs.print.print_call.Reads as print-call-reads
-use Rattle.vectors.proofs.print.print_end.Reads as print-end-reads
-use Rattle.vectors.proofs.run.load_tags.Reads as load-tags-reads
 
 slice-aggregate-load-tags : tie.Need-slice-aggregate-load-tags
 slice-aggregate-load-tags c = search needs

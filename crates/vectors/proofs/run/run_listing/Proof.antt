@@ -1,4 +1,5 @@
--- The listing lies within the bytes of its buffer, by what `list` ensures.
+-- `vectors::run::run_listing` is safe; it has no contract of its own. `ends-within` says that the listing ends within its buffer.
+-- Assumes nothing.
 use mathlib.Core.Path.{refl, sym}
 use lib.Seq.{length-take-le}
 use Rattle.lines.proofs.Laws.{ends-within}

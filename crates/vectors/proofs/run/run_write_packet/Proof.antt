@@ -1,18 +1,12 @@
+-- `vectors::run::run_write_packet` meets its contract. `lent-by` takes the buffer that `amv_write_packet` ensures for the words that `writer_of`
+-- ensures; the prints leave it alone.
+-- Assumes nothing.
 use Rattle.muxer.specs.Writer.{packetCall}
 use Rattle.vectors.proofs.Lent.{lent-by}
 use Rattle.vectors.specs.Cases.{streamIn}
 use borrow.Author.Needs.{needs}
 use Rattle.vectors.proofs.run.run_write_packet.Statement.{statement}
 use Rattle.vectors.proofs.run.run_write_packet.Tie as tie
-use Rattle.vectors.proofs.run.run_write_packet.Reads as reads
-use Rattle.vectors.proofs.run.run_write_packet.Lts as lts
-use Rattle.capi.proofs.amv_write_packet.Reads as amv-write-packet-reads
-use Rattle.vectors.proofs.print.print_1.Reads as print-1-reads
-use Rattle.vectors.proofs.print.print_9.Reads as print-9-reads
-use Rattle.vectors.proofs.print.print_bytes.Reads as print-bytes-reads
-use Rattle.vectors.proofs.print.print_call.Reads as print-call-reads
-use Rattle.vectors.proofs.print.print_end.Reads as print-end-reads
-use Rattle.vectors.proofs.run.writer_of.Reads as writer-of-reads
 
 writer-of-requires : tie.Need-writer-of-requires
 writer-of-requires c κs = search needs

@@ -1,13 +1,10 @@
+-- `vectors::run::run_writing` meets its contract. Each arm rewrites the choice by the tests that lead to it, and returns what the one call ensures of
+-- the lent bytes.
+-- Assumes nothing.
 use borrow.Author.Tests.{eq-eqb, ne-eqb}
 use borrow.Author.Needs.{needs}
 use Rattle.vectors.proofs.run.run_writing.Statement.{statement}
 use Rattle.vectors.proofs.run.run_writing.Tie as tie
-use Rattle.vectors.proofs.run.run_writing.Reads as reads
-use Rattle.vectors.proofs.run.run_writing.Lts as lts
-use Rattle.vectors.proofs.run.run_build_chunk_index.Reads as run-build-chunk-index-reads
-use Rattle.vectors.proofs.run.run_write_header.Reads as run-write-header-reads
-use Rattle.vectors.proofs.run.run_write_packet.Reads as run-write-packet-reads
-use Rattle.vectors.proofs.run.run_write_trailer.Reads as run-write-trailer-reads
 
 run-build-chunk-index-requires : tie.Need-run-build-chunk-index-requires
 run-build-chunk-index-requires c κs = search needs
@@ -31,21 +28,24 @@ same-length-2 : tie.Need-same-length-2
 same-length-2 c = search needs
 
 returns-2 : tie.Need-returns-2
-returns-2 c = rw (ne-eqb _ _ (c .before .before .before .before .before .if1 .left), eq-eqb _ _ (c .before .before .before .before .if2 .taken)) (c .before .before .run-write-header .ensures)
+returns-2 c = rw (ne-eqb _ _ (c .before .before .before .before .before .if1 .left), eq-eqb _ _ (c .before .before .before .before .if2 .taken))
+    (c .before .before .run-write-header .ensures)
 
 same-length-3 : tie.Need-same-length-3
 same-length-3 c = search needs
 
 returns-3 : tie.Need-returns-3
 returns-3 c =
-    rw (ne-eqb _ _ (c .before .before .before .before .before .before .if1 .left), ne-eqb _ _ (c .before .before .before .before .before .if2 .left), eq-eqb _ _ (c .before .before .before .before .if3 .taken)) (c .before .before .run-write-packet .ensures)
+    let t = c .before .before .before .before in
+    rw (ne-eqb _ _ (t .before .before .if1 .left), ne-eqb _ _ (t .before .if2 .left), eq-eqb _ _ (t .if3 .taken)) (c .before .before .run-write-packet .ensures)
 
 same-length-4 : tie.Need-same-length-4
 same-length-4 c = search needs
 
 returns-4 : tie.Need-returns-4
 returns-4 c =
-    rw (ne-eqb _ _ (c .before .before .before .before .before .before .if1 .left), ne-eqb _ _ (c .before .before .before .before .before .if2 .left), ne-eqb _ _ (c .before .before .before .before .if3 .left)) (c .before .before .run-write-trailer .ensures)
+    let t = c .before .before .before .before in
+    rw (ne-eqb _ _ (t .before .before .if1 .left), ne-eqb _ _ (t .before .if2 .left), ne-eqb _ _ (t .if3 .left)) (c .before .before .run-write-trailer .ensures)
 
 pub run-writing-spec : {M : Type 1} → statement M
 run-writing-spec =

@@ -1,9 +1,9 @@
+-- `words::out::packet_out` meets its contract. The array is the definition's list word by word, once the duration's word is what `duration_word`
+-- ensures.
+-- Assumes nothing.
 use borrow.Author.Needs.{needs}
 use Rattle.words.proofs.out.packet_out.Statement.{statement}
 use Rattle.words.proofs.out.packet_out.Tie as tie
-use Rattle.words.proofs.out.packet_out.Reads as reads
-use Rattle.words.proofs.out.packet_out.Lts as lts
-use Rattle.words.proofs.out.duration_word.Reads as duration-word-reads
 
 cast-t3 : tie.Need-cast-t3
 cast-t3 c = search needs

@@ -1,3 +1,6 @@
+-- `words::out::result_out` meets its contract. Each arm writes what its variant says: `says-accepted` closes Ok, and `says-error` the refusal, whose
+-- number and place are those that the two calls ensure.
+-- Assumes nothing.
 use mathlib.Core.Path.{refl, ap}
 use Rattle.error.specs.Refusal.{said}
 use Rattle.words.specs.Out.{checked}
@@ -5,10 +8,6 @@ use Rattle.words.proofs.Laws.{says-accepted, says-error}
 use borrow.Author.Needs.{needs}
 use Rattle.words.proofs.out.result_out.Statement.{statement}
 use Rattle.words.proofs.out.result_out.Tie as tie
-use Rattle.words.proofs.out.result_out.Reads as reads
-use Rattle.words.proofs.out.result_out.Lts as lts
-use Rattle.error.proofs.AmvError.number.Reads as number-reads
-use Rattle.error.proofs.AmvError.place.Reads as place-reads
 
 enum-told : tie.Need-enum-told
 enum-told c = search needs
@@ -26,7 +25,8 @@ returns : tie.Need-returns
 returns c = says-accepted 1 (ap (λ r. checked (said r)) (c .before .enum-told .given .1)) refl
 
 returns-2 : tie.Need-returns-2
-returns-2 c = says-error 1 (c .before .before .before .before .result .given .0 .0) (ap (λ r. checked (said r)) (c .before .before .before .before .result .given .1)) (c .number .ensures) (c .before .before .place .ensures)
+returns-2 c = says-error 1 (c .before .before .before .before .result .given .0 .0)
+    (ap (λ r. checked (said r)) (c .before .before .before .before .result .given .1)) (c .number .ensures) (c .before .before .place .ensures)
 
 pub result-out-spec : {M : Type 1} → statement M
 result-out-spec =

@@ -1,8 +1,8 @@
+-- `words::walker::trailer_of` meets its contract. The code's test is the definition's, so each arm rewrites by what it has tested.
+-- Assumes nothing.
 use borrow.Author.Tests.{eq-eqb, ne-eqb}
 use Rattle.words.proofs.walker.trailer_of.Statement.{statement}
 use Rattle.words.proofs.walker.trailer_of.Tie as tie
-use Rattle.words.proofs.walker.trailer_of.Reads as reads
-use Rattle.words.proofs.walker.trailer_of.Lts as lts
 
 returns : tie.Need-returns
 returns c = rw (eq-eqb _ _ (c .if1 .taken))

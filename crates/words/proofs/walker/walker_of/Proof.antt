@@ -1,11 +1,11 @@
+-- `words::walker::walker_of` meets its contract. Each return rewrites `walkerLegal` by the tests that lead to it: a mark over 1 makes it false, and
+-- past both tests it is true and the fields are those of the words.
+-- Assumes nothing.
 use borrow.Author.Tests.{le-leb, lt-leb}
 use Rattle.words.specs.State.{walkerLegal}
 use borrow.Author.Needs.{needs}
 use Rattle.words.proofs.walker.walker_of.Statement.{statement}
 use Rattle.words.proofs.walker.walker_of.Tie as tie
-use Rattle.words.proofs.walker.walker_of.Reads as reads
-use Rattle.words.proofs.walker.walker_of.Lts as lts
-use Rattle.words.proofs.walker.trailer_of.Reads as trailer-of-reads
 
 array-read-if1 : tie.Need-array-read-if1
 array-read-if1 c = search needs

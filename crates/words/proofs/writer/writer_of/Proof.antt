@@ -1,10 +1,11 @@
+-- `words::writer::writer_of` meets its contract. Each of seven tests that fails makes `writerLegal` false; past all of them it is true, and each cast
+-- keeps its word because the word is in its field's range.
+-- Assumes nothing.
 use borrow.Author.Tests.{le-leb, lt-leb}
 use Rattle.words.specs.State.{settingsLegal, writerLegal}
 use borrow.Author.Needs.{needs}
 use Rattle.words.proofs.writer.writer_of.Statement.{statement}
 use Rattle.words.proofs.writer.writer_of.Tie as tie
-use Rattle.words.proofs.writer.writer_of.Reads as reads
-use Rattle.words.proofs.writer.writer_of.Lts as lts
 
 array-read-if1 : tie.Need-array-read-if1
 array-read-if1 c = search needs

@@ -1,9 +1,8 @@
+-- `words::writer::writer_words` meets its contract. A cast to 64 bits keeps a setting, and the words of the two marks are what `mark_word` ensures.
+-- Assumes nothing.
 use borrow.Author.Needs.{needs}
 use Rattle.words.proofs.writer.writer_words.Statement.{statement}
 use Rattle.words.proofs.writer.writer_words.Tie as tie
-use Rattle.words.proofs.writer.writer_words.Reads as reads
-use Rattle.words.proofs.writer.writer_words.Lts as lts
-use Rattle.words.proofs.walker.mark_word.Reads as mark-word-reads
 
 cast-t3 : tie.Need-cast-t3
 cast-t3 c = search needs

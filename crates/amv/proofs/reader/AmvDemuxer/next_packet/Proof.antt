@@ -1,4 +1,5 @@
--- `AmvDemuxer::next_packet` meets its contract: the read is called on the walker and the file behind `self`.
+-- `amv::reader::AmvDemuxer::next_packet` meets its contract. The read is called on the walker and the file behind `self`: `runs-file` walks that code,
+-- `file-twice` lends the file and keeps it, and `changes` stores the next walker.
 -- Assumes nothing.
 use mathlib.Core.Path.{_≡_, refl}
 use Prim.Native.Nat.{ℕ}
@@ -62,7 +63,12 @@ module _ {M : Type 1} (𝓤 : URA M) (H : Heap 𝓤) (A : Atoms 𝓤) (W : Given
 
   abbrev answered : Answered 𝓤 H A G.the-row N.the-row K.the-row walkerVal
   answered = record {
-    whole = record { mir = G′.mir; val = LL.val G.the-type G′.the-laws; tells = LL.tells G.the-type G′.the-laws; typed = λ t v is. LL.lawful G.the-type G′.the-laws 𝓤 H A W .typed t _ is .0 };
+    whole = record {
+      mir = G′.mir;
+      val = LL.val G.the-type G′.the-laws;
+      tells = LL.tells G.the-type G′.the-laws;
+      typed = λ t v is. LL.lawful G.the-type G′.the-laws 𝓤 H A W .typed t _ is .0;
+    };
     answer = λ t. t .answer;
     answer-val = λ n. only (EL.vals N.the-type N′.the-laws n);
     answer-made = EL.makes N.the-type N′.the-plain 𝓤 H A;
@@ -102,36 +108,51 @@ module _ {M : Type 1} (𝓤 : URA M) (H : Heap 𝓤) (A : Atoms 𝓤) (W : Given
     Own = ‵ (T.the-row α .own h (readerVal α h ∷ []))
 
     takes : ent 𝓤 Start (mean 𝓤 H A (‵ (flft κ q) ⊛ ‵ (MutRef (named 0) κ (T.the-row α) .own x (vptr b o ∷ [])) ⊛ token))
-    takes = qed W ((‵ (flft κ q) ⊛ token) ∷ ‵ (owns (MutRef (named 0) κ (T.the-row α) ∷ []) (x, tt) (vptr b o ∷ [], tt)) ∷ []) ∵ split ! $ frame ! $ move ! (1 ∷ []) $ fsplit ! $ frame ! $ drop ! $ done !
+    takes = qed W ((‵ (flft κ q) ⊛ token) ∷ ‵ (owns (MutRef (named 0) κ (T.the-row α) ∷ []) (x, tt) (vptr b o ∷ [], tt)) ∷ []) ∵ split ! $ frame ! $
+        move ! (1 ∷ []) $ fsplit ! $ frame ! $ drop ! $ done !
 
     gives : Is (T.the-row α) h (readerVal α h ∷ []) → ent 𝓤 (mean 𝓤 H A (Own ⊛ token)) (mean 𝓤 H A (raw (Callee .pre to) ⊛ Own ⊛ ‵ ftrue))
     gives is =
         qed W (Own ∷ token ∷ []) ∵ use1 W (‵ (ShrSlice (named 0) κ′ u8 .own (h .file) (v ∷ [])) ⊛ Own) (file-twice 𝓤 H A W α h) $ split ! $
-        nothing ! $ move ! (1 ∷ 0 ∷ []) $ fjoin ! $ owned ! K.the-row (Is K.the-row) (readerHolder 𝓤 H A W α .part-made) (h .walker) _ (LL.owed (T.the-type α) (T′.the-laws α) h _ is .1 .0) $ fjoin ! $
+        nothing ! $ move ! (1 ∷ 0 ∷ []) $ fjoin ! $
+        owned ! K.the-row (Is K.the-row) (readerHolder 𝓤 H A W α .part-made) (h .walker) _ (LL.owed (T.the-type α) (T′.the-laws α) h _ is .1 .0) $ fjoin ! $
         move ! (2 ∷ 0 ∷ []) $ use2 W (raw (Callee .pre to)) (unasked 𝓤 H A W _) $ frame ! $ frame ! $ done !
 
     abbrev after : Read → Item 𝓤
     after t = given (Said t) (raw (mean 𝓤 H A token))
 
-    ends : (t : Read) → ent 𝓤 (mean 𝓤 H A (‵ (N.the-row .own (t .answer) (answered .answer-val (t .answer) ∷ [])) ⊛ ‵ (flft κ q) ⊛ ‵ (MutRef (named 0) κ (T.the-row α) .own (at-last x (withWalker h (t .walker))) (vptr b o ∷ [])) ⊛ after t ⊛ ‵ ftrue)) (Post (answered .answer-val (t .answer)))
+    ends : (t : Read)
+        → ent 𝓤 (mean 𝓤 H A (‵ (N.the-row .own (t .answer) (answered .answer-val (t .answer) ∷ [])) ⊛ ‵ (flft κ q)
+        ⊛ ‵ (MutRef (named 0) κ (T.the-row α) .own (at-last x (withWalker h (t .walker))) (vptr b o ∷ [])) ⊛ after t
+        ⊛ ‵ ftrue)) (Post (answered .answer-val (t .answer)))
     ends t =
-        qed W (‵ (N.the-row .own (t .answer) (answered .answer-val (t .answer) ∷ [])) ∷ ‵ (flft κ q) ∷ ‵ (MutRef (named 0) κ (T.the-row α) .own (at-last x (withWalker h (t .walker))) (vptr b o ∷ [])) ∷ after t ∷ ‵ ftrue ∷ []) ∵ move ! (3 ∷ []) $ learn ! (λ e.
-        suffices ! _ (ends-at 𝓤 H A own.ended stayed (own.clauses 𝓤 H A at-mem run) W (((κ, (κ′, tt)), (q, (q′, tt)), bounds, (x, tt), (vptr b o ∷ [], tt)), tt) (answered .answer-val (t .answer)) (t .answer) (withWalker h (t .walker), tt) (tt, tt)) $ says ! (e .0, e .1, refl) $
+        qed W (‵ (N.the-row .own (t .answer) (answered .answer-val (t .answer) ∷ [])) ∷ ‵ (flft κ q)
+        ∷ ‵ (MutRef (named 0) κ (T.the-row α) .own (at-last x (withWalker h (t .walker))) (vptr b o ∷ [])) ∷ after t ∷ ‵ ftrue ∷ []) ∵
+        move ! (3 ∷ []) $ learn ! (λ e.
+        suffices ! _ (ends-at 𝓤 H A own.ended stayed (own.clauses 𝓤 H A at-mem run) W (((κ, (κ′, tt)), (q, (q′, tt)), bounds, (x, tt), (vptr b o ∷ [], tt)), tt)
+        (answered .answer-val (t .answer)) (t .answer) (withWalker h (t .walker), tt) (tt, tt)) $ says ! (e .0, e .1, refl) $
         move ! (2 ∷ 0 ∷ []) $ join ! $ frame ! $ move ! (1 ∷ 2 ∷ []) $ fjoin ! $ frame ! $ done !)
 
     module _ (C : Calls 𝓤 H) (Λ : Loops 𝓤 H) (fm : FmC 𝓤 H (W .laws) C) (known : Triple 𝓤 (C #callee) Callee) where
       walk : ent 𝓤 Start (WpFn 𝓤 H C Λ code.function (vptr b o ∷ []) Post)
       walk =
-          changes 𝓤 H A W C Λ code.function (vptr b o ∷ []) #callee (walkerVal (h .walker) ∷ v ∷ []) (named 0) κ q b o γ (T.the-row α) K.the-row G.the-row N.the-row (readerHolder 𝓤 H A W α) answered h
-          (runs-file 𝓤 H A W C Λ fm _ _ _ _ _ _ _ _ 1 #callee _ refl b o (tt, tt) _ Read (λ t. answered .answer-val (t .answer)) (λ t. walkerVal (t .walker)) 0 _ _ refl)
-          Start token (raw (Callee .pre to)) (‵ ftrue) (Callee .post to) after Post (λ v. W .laws .⇛-trans _) takes gives (known to) (told 𝓤 H A W callee.ended (callee.clauses 𝓤 H A at-mem run) to Said (λ t e. both-said 𝓤 H A W _ _)) ends
+          changes 𝓤 H A W C Λ code.function (vptr b o ∷ []) #callee (walkerVal (h .walker) ∷ v ∷ []) (named 0) κ q b o γ
+          (T.the-row α) K.the-row G.the-row N.the-row (readerHolder 𝓤 H A W α) answered h
+          (runs-file 𝓤 H A W C Λ fm _ _ _ _ _ _ _ _ 1 #callee _ refl b o (tt, tt) _ Read (λ t. answered .answer-val (t .answer))
+          (λ t. walkerVal (t .walker)) 0 _ _ refl)
+          Start token (raw (Callee .pre to)) (‵ ftrue) (Callee .post to) after Post (λ v. W .laws .⇛-trans _) takes gives (known to)
+          (told 𝓤 H A W callee.ended (callee.clauses 𝓤 H A at-mem run) to Said (λ t e. both-said 𝓤 H A W _ _)) ends
 
 pub next-packet-spec : {M : Type 1} → stated.statement M
 unfolding code.routine tablesOf
 next-packet-spec 𝓤 H 𝓜 𝓖 𝓡 =
     let A = 𝓖 .A in let W = givenOf 𝓤 H 𝓜 𝓖 in let 𝓣 = tablesOf 𝓤 H 𝓜 (tables 𝓤 H 𝓜 𝓡 code.env) in
-    entered 𝓤 H (tripleOf 𝓤 H A own.signature (own.spec 𝓤 H A (𝓜 .mem) (𝓡 .run))) (tables 𝓤 H 𝓜 𝓡 code.env .C) (tables 𝓤 H 𝓜 𝓡 code.env .Λ) #own code.function (code.unfolded 𝓤 H 𝓜 𝓡)
-    (meets-by 𝓤 H A W 𝓣 own.ended stayed (goes-ref 𝓤 H A W 2 0 tt (plain (λ κs. T.the-row (namedLft 2 1 tt κs))), tt) (own.clauses 𝓤 H A (𝓜 .mem) (𝓡 .run)) code.function
+    entered 𝓤 H (tripleOf 𝓤 H A own.signature (own.spec 𝓤 H A (𝓜 .mem) (𝓡 .run))) (tables 𝓤 H 𝓜 𝓡 code.env .C) (tables 𝓤 H 𝓜 𝓡 code.env .Λ) #own code.function
+    (code.unfolded 𝓤 H 𝓜 𝓡)
+    (meets-by 𝓤 H A W 𝓣 own.ended stayed (goes-ref 𝓤 H A W 2 0 tt (plain (λ κs. T.the-row (namedLft 2 1 tt κs))), tt)
+    (own.clauses 𝓤 H A (𝓜 .mem) (𝓡 .run)) code.function
     (λ κs. (ptr-vals, tt)) (λ κs. (mut-tells (named 0) (κs .0) (T.the-row (namedLft 2 1 tt κs)), tt))
-    (λ κs qs bounds a g are. walk 𝓤 H A W (𝓜 .mem) (𝓡 .run) (κs .0) (κs .1 .0) (qs .0) (qs .1 .0) bounds (a .0 .ptr .0) (a .0 .ptr .1) (a .0 .name) (a .0 .now) (𝓣 .C) (𝓣 .Λ) (fmOf 𝓤 H (W .laws) 𝓣)
-    (cited 𝓤 H (Callee 𝓤 H A W (𝓜 .mem) (𝓡 .run)) 𝓜 𝓡 code.env #callee callee-def.routine code.calls-demuxer·walker·Walker·next-packet (callee-thm.met 𝓤 H 𝓜 𝓖 𝓡))))
+    (λ κs qs bounds a g are. walk 𝓤 H A W (𝓜 .mem) (𝓡 .run) (κs .0) (κs .1 .0) (qs .0) (qs .1 .0) bounds (a .0 .ptr .0) (a .0 .ptr .1) (a .0 .name) (a .0 .now)
+    (𝓣 .C) (𝓣 .Λ) (fmOf 𝓤 H (W .laws) 𝓣)
+    (cited 𝓤 H (Callee 𝓤 H A W (𝓜 .mem) (𝓡 .run)) 𝓜 𝓡 code.env #callee callee-def.routine code.calls-demuxer·walker·Walker·next-packet
+    (callee-thm.met 𝓤 H 𝓜 𝓖 𝓡))))

@@ -1,4 +1,5 @@
--- `AmvDemuxer::seek` meets its contract: the seek is called on the walker behind `self`, and on what else is passed.
+-- `amv::reader::AmvDemuxer::seek` meets its contract. The seek is called on the walker behind `self` and on the three other arguments: `runs-three`
+-- walks that code, and `changes` stores the walker sought.
 -- Assumes nothing.
 use mathlib.Core.Path.{_≡_, refl}
 use Prim.Native.Nat.{ℕ, _<_, _^_}
@@ -58,7 +59,10 @@ use Rattle.amv.proofs.reader.AmvDemuxer.seek.Statement as stated
 use Rattle.amv.proofs.reader.AmvDemuxer.seek.Code as code
 
 abbrev stayed : Stays (own.ended .signature .params) (own.ended .kept)
-stayed = (stay-ref (0 ∷ []) tt (plain (λ κs. T.the-row (namedLft 3 1 tt κs))), (stay-none-slice (2 ∷ []) tt (plain (λ _. u8)) yes, (stay-none (λ _. u32) yes, (stay-none (λ _. i64) yes, tt))))
+stayed = (
+  stay-ref (0 ∷ []) tt (plain (λ κs. T.the-row (namedLft 3 1 tt κs))),
+  (stay-none-slice (2 ∷ []) tt (plain (λ _. u8)) yes, (stay-none (λ _. u32) yes, (stay-none (λ _. i64) yes, tt))),
+)
 
 module _ {M : Type 1} (𝓤 : URA M) (H : Heap 𝓤) (A : Atoms 𝓤) (W : Given 𝓤 H A) (at-mem : Memory → SProp 𝓤) (run : Routine → Fun 𝓤) where
   abbrev Callee : Contract 𝓤
@@ -66,7 +70,12 @@ module _ {M : Type 1} (𝓤 : URA M) (H : Heap 𝓤) (A : Atoms 𝓤) (W : Given
 
   abbrev answered : Answered 𝓤 H A G.the-row N.the-row K.the-row walkerVal
   answered = record {
-    whole = record { mir = G′.mir; val = LL.val G.the-type G′.the-laws; tells = LL.tells G.the-type G′.the-laws; typed = λ t v is. LL.lawful G.the-type G′.the-laws 𝓤 H A W .typed t _ is .0 };
+    whole = record {
+      mir = G′.mir;
+      val = LL.val G.the-type G′.the-laws;
+      tells = LL.tells G.the-type G′.the-laws;
+      typed = λ t v is. LL.lawful G.the-type G′.the-laws 𝓤 H A W .typed t _ is .0;
+    };
     answer = λ t. t .result;
     answer-val = λ n. only (EL.vals N.the-type N′.the-laws n);
     answer-made = EL.makes N.the-type N′.the-plain 𝓤 H A;
@@ -74,7 +83,8 @@ module _ {M : Type 1} (𝓤 : URA M) (H : Heap 𝓤) (A : Atoms 𝓤) (W : Given
     parts = λ t is. (LL.owed G.the-type G′.the-laws t _ is .0, LL.owed G.the-type G′.the-laws t _ is .1 .0);
   }
 
-  module _ (κ κ′ κ″ : Lft) (q q′ q″ : Share) (bounds : AllOutlive 3 (own.signature .outlives) (κ, (κ′, (κ″, tt)))) (b o : ℕ) (γ : GName) (h : AmvDemuxer) (y : RefT (List ℕ)) (n : ℕ) (z : ℤ) (n-fits : n < 2 ^ 32) (isz : Is i64 z (vint w64 (ofZ w64 z) ∷ [])) where
+  module _ (κ κ′ κ″ : Lft) (q q′ q″ : Share) (bounds : AllOutlive 3 (own.signature .outlives) (κ, (κ′, (κ″, tt)))) (b o : ℕ) (γ : GName) (h : AmvDemuxer)
+      (y : RefT (List ℕ)) (n : ℕ) (z : ℤ) (n-fits : n < 2 ^ 32) (isz : Is i64 z (vint w64 (ofZ w64 z) ∷ [])) where
     abbrev α : NamedLft
     α = namedLft 3 1 tt (κ, (κ′, (κ″, tt)))
 
@@ -123,12 +133,16 @@ module _ {M : Type 1} (𝓤 : URA M) (H : Heap 𝓤) (A : Atoms 𝓤) (W : Given
     Rest = ‵ (owns (ShrSlice (named 2) κ″ u8 ∷ u32 ∷ i64 ∷ []) (a .1) (vals .1))
 
     takes : ent 𝓤 Start (mean 𝓤 H A (‵ (flft κ q) ⊛ ‵ (MutRef (named 0) κ (T.the-row α) .own x (vptr b o ∷ [])) ⊛ (‵ (flft κ′ q′) ⊛ token) ⊛ Rest))
-    takes = qed W ((‵ (flft κ q) ⊛ ‵ (flft κ′ q′) ⊛ token) ∷ ‵ (owns (MutRef (named 0) κ (T.the-row α) ∷ ShrSlice (named 2) κ″ u8 ∷ u32 ∷ i64 ∷ []) a vals) ∷ []) ∵ split ! $ frame ! $ move ! (1 ∷ []) $ fsplit ! $ frame ! $ move ! (1 ∷ 0 ∷ []) $ done !
+    takes = qed W ((‵ (flft κ q) ⊛ ‵ (flft κ′ q′) ⊛ token) ∷ ‵ (owns (MutRef (named 0) κ (T.the-row α) ∷ ShrSlice (named 2) κ″ u8 ∷ u32 ∷ i64 ∷ []) a vals)
+        ∷ []) ∵ split ! $ frame ! $ move ! (1 ∷ []) $ fsplit ! $ frame ! $ move ! (1 ∷ 0 ∷ []) $ done !
 
-    gives : Is (T.the-row α) h (readerVal α h ∷ []) → ent 𝓤 (mean 𝓤 H A (Own ⊛ (‵ (flft κ′ q′) ⊛ token) ⊛ Rest)) (mean 𝓤 H A (raw (Callee .pre to) ⊛ Own ⊛ ‵ (flft κ′ q′) ⊛ OwnY))
+    gives : Is (T.the-row α) h (readerVal α h ∷ [])
+        → ent 𝓤 (mean 𝓤 H A (Own ⊛ (‵ (flft κ′ q′) ⊛ token) ⊛ Rest)) (mean 𝓤 H A (raw (Callee .pre to) ⊛ Own ⊛ ‵ (flft κ′ q′) ⊛ OwnY))
     gives is =
-        qed W (Own ∷ (‵ (flft κ′ q′) ⊛ token) ∷ Rest ∷ []) ∵ move ! (2 ∷ []) $ fsplit ! $ use1 W (OwnY ⊛ OwnY) (shr-slice-copy 𝓤 H A W (named 2) κ″ u8 .twice y (vy ∷ [])) $ split ! $
-        move ! (0 ∷ 2 ∷ []) $ fjoin ! $ owned ! K.the-row (Is K.the-row) (readerHolder 𝓤 H A W α .part-made) (h .walker) _ (LL.owed (T.the-type α) (T′.the-laws α) h _ is .1 .0) $ fjoin ! $
+        qed W (Own ∷ (‵ (flft κ′ q′) ⊛ token) ∷ Rest ∷ []) ∵ move ! (2 ∷ []) $ fsplit ! $
+        use1 W (OwnY ⊛ OwnY) (shr-slice-copy 𝓤 H A W (named 2) κ″ u8 .twice y (vy ∷ [])) $ split ! $
+        move ! (0 ∷ 2 ∷ []) $ fjoin ! $
+        owned ! K.the-row (Is K.the-row) (readerHolder 𝓤 H A W α .part-made) (h .walker) _ (LL.owed (T.the-type α) (T′.the-laws α) h _ is .1 .0) $ fjoin ! $
         -- [what the callee is passed; the records; the struct; the tokens]
         move ! (3 ∷ []) $ split ! $ move ! (1 ∷ 2 ∷ []) $ use2 W (raw (Callee .pre to)) (unasked 𝓤 H A W _) $ frame ! $ move ! (2 ∷ []) $ done !
 
@@ -138,31 +152,49 @@ module _ {M : Type 1} (𝓤 : URA M) (H : Heap 𝓤) (A : Atoms 𝓤) (W : Given
     abbrev answer : Sought → Val
     answer t = answered .answer-val (t .result)
 
-    ends : (t : Sought) → ent 𝓤 (mean 𝓤 H A (‵ (N.the-row .own (t .result) (answer t ∷ [])) ⊛ ‵ (flft κ q) ⊛ ‵ (MutRef (named 0) κ (T.the-row α) .own (at-last x (withWalker h (t .walker))) (vptr b o ∷ [])) ⊛ after t ⊛ ‵ (flft κ′ q′) ⊛ OwnY)) (Post (answer t))
+    ends : (t : Sought)
+        → ent 𝓤 (mean 𝓤 H A (‵ (N.the-row .own (t .result) (answer t ∷ [])) ⊛ ‵ (flft κ q)
+        ⊛ ‵ (MutRef (named 0) κ (T.the-row α) .own (at-last x (withWalker h (t .walker))) (vptr b o ∷ [])) ⊛ after t ⊛ ‵ (flft κ′ q′) ⊛ OwnY)) (Post (answer t))
     ends t =
-        qed W (‵ (N.the-row .own (t .result) (answer t ∷ [])) ∷ ‵ (flft κ q) ∷ ‵ (MutRef (named 0) κ (T.the-row α) .own (at-last x (withWalker h (t .walker))) (vptr b o ∷ [])) ∷ after t ∷ ‵ (flft κ′ q′) ∷ OwnY ∷ []) ∵ move ! (3 ∷ []) $ learn ! (λ e.
-        suffices ! _ (ends-at 𝓤 H A own.ended stayed (own.clauses 𝓤 H A at-mem run) W (((κ, (κ′, (κ″, tt))), (q, (q′, (q″, tt))), bounds, a, vals), tt) (answer t) (t .result) (withWalker h (t .walker), (tt, (tt, (tt, tt)))) (tt, (tt, (tt, (tt, tt))))) $ says ! (e, refl) $
+        qed W (‵ (N.the-row .own (t .result) (answer t ∷ [])) ∷ ‵ (flft κ q)
+        ∷ ‵ (MutRef (named 0) κ (T.the-row α) .own (at-last x (withWalker h (t .walker))) (vptr b o ∷ [])) ∷ after t ∷ ‵ (flft κ′ q′) ∷ OwnY ∷ []) ∵
+        move ! (3 ∷ []) $ learn ! (λ e.
+        suffices ! _ (ends-at 𝓤 H A own.ended stayed (own.clauses 𝓤 H A at-mem run) W (((κ, (κ′, (κ″, tt))), (q, (q′, (q″, tt))), bounds, a, vals), tt)
+        (answer t) (t .result) (withWalker h (t .walker), (tt, (tt, (tt, tt)))) (tt, (tt, (tt, (tt, tt))))) $ says ! (e, refl) $
         move ! (4 ∷ 0 ∷ []) $ join ! $ move ! (2 ∷ 0 ∷ []) $ join ! $ frame ! $
         -- [the answer; the reference; the records]
-        nothing ! $ owned ! i64 (Is i64) (sint-makes 𝓤 H A W w64) z _ isz $ fjoin ! $ owned ! u32 (Is u32) (uint-makes 𝓤 H A W w32) n _ (refl, n-fits) $ fjoin ! $ move ! (3 ∷ 0 ∷ []) $ fjoin ! $ move ! (2 ∷ 0 ∷ []) $ fjoin ! $ frame ! $ done !)
+        nothing ! $ owned ! i64 (Is i64) (sint-makes 𝓤 H A W w64) z _ isz $ fjoin ! $ owned ! u32 (Is u32) (uint-makes 𝓤 H A W w32) n _ (refl, n-fits) $
+        fjoin ! $ move ! (3 ∷ 0 ∷ []) $ fjoin ! $ move ! (2 ∷ 0 ∷ []) $ fjoin ! $ frame ! $ done !)
 
-    module _ (isy : Is (ShrSlice (named 2) κ″ u8) y (vy ∷ [])) (C : Calls 𝓤 H) (Λ : Loops 𝓤 H) (fm : FmC 𝓤 H (W .laws) C) (known : Triple 𝓤 (C #callee) Callee) where
+    module _ (isy : Is (ShrSlice (named 2) κ″ u8) y (vy ∷ [])) (C : Calls 𝓤 H) (Λ : Loops 𝓤 H) (fm : FmC 𝓤 H (W .laws) C)
+        (known : Triple 𝓤 (C #callee) Callee) where
       walk : ent 𝓤 Start (WpFn 𝓤 H C Λ code.function (vptr b o ∷ vy ∷ vn ∷ vz ∷ []) Post)
       walk =
-          changes 𝓤 H A W C Λ code.function (vptr b o ∷ vy ∷ vn ∷ vz ∷ []) #callee (walkerVal (h .walker) ∷ vy ∷ vn ∷ vz ∷ []) (named 0) κ q b o γ (T.the-row α) K.the-row G.the-row N.the-row (readerHolder 𝓤 H A W α) answered h
+          changes 𝓤 H A W C Λ code.function (vptr b o ∷ vy ∷ vn ∷ vz ∷ []) #callee (walkerVal (h .walker) ∷ vy ∷ vn ∷ vz ∷ []) (named 0) κ q b o γ
+          (T.the-row α) K.the-row G.the-row N.the-row (readerHolder 𝓤 H A W α) answered h
           (runs-three 𝓤 H A W C Λ fm _ _ _ _ _ _ _ _ 1 #callee _ refl b o (tt, tt) _ Sought answer (λ t. walkerVal (t .walker)) _ _ _ vy vn vz
           (shr-slice-lawful 𝓤 H A W (named 2) κ″ u8 .typed y (vy ∷ []) isy .0) (tt, record { fits = n-fits }) (sint-lawful 𝓤 H A W w64 .typed z _ isz .0))
-          Start ((‵ (flft κ′ q′) ⊛ token) ⊛ Rest) (raw (Callee .pre to)) (‵ (flft κ′ q′) ⊛ OwnY) (Callee .post to) after Post (λ v. W .laws .⇛-trans _) takes gives (known to)
+          Start ((‵ (flft κ′ q′) ⊛ token) ⊛ Rest) (raw (Callee .pre to)) (‵ (flft κ′ q′) ⊛ OwnY) (Callee .post to) after Post
+          (λ v. W .laws .⇛-trans _) takes gives (known to)
           (told 𝓤 H A W callee.ended (callee.clauses 𝓤 H A at-mem run) to Said (λ t e. id⊢ 𝓤 _)) ends
 
 pub seek-spec : {M : Type 1} → stated.statement M
 unfolding code.routine tablesOf
 seek-spec 𝓤 H 𝓜 𝓖 𝓡 =
     let A = 𝓖 .A in let W = givenOf 𝓤 H 𝓜 𝓖 in let 𝓣 = tablesOf 𝓤 H 𝓜 (tables 𝓤 H 𝓜 𝓡 code.env) in
-    entered 𝓤 H (tripleOf 𝓤 H A own.signature (own.spec 𝓤 H A (𝓜 .mem) (𝓡 .run))) (tables 𝓤 H 𝓜 𝓡 code.env .C) (tables 𝓤 H 𝓜 𝓡 code.env .Λ) #own code.function (code.unfolded 𝓤 H 𝓜 𝓡)
-    (meets-by 𝓤 H A W 𝓣 own.ended stayed
-    (goes-ref 𝓤 H A W 3 0 tt (plain (λ κs. T.the-row (namedLft 3 1 tt κs))), (goes-none-slice 𝓤 H A W 3 (2 ∷ []) tt (plain (λ _. u8)) yes, (goes-none 𝓤 H A W 3 (λ _. u32) yes (λ κs x f. refl), (goes-none 𝓤 H A W 3 (λ _. i64) yes (λ κs x f. refl), tt))))
+    entered 𝓤 H (tripleOf 𝓤 H A own.signature (own.spec 𝓤 H A (𝓜 .mem) (𝓡 .run))) (tables 𝓤 H 𝓜 𝓡 code.env .C) (tables 𝓤 H 𝓜 𝓡 code.env .Λ) #own code.function
+    (code.unfolded 𝓤 H 𝓜 𝓡)
+    (meets-by 𝓤 H A W 𝓣 own.ended stayed (
+      goes-ref 𝓤 H A W 3 0 tt (plain (λ κs. T.the-row (namedLft 3 1 tt κs))),
+      (
+        goes-none-slice 𝓤 H A W 3 (2 ∷ []) tt (plain (λ _. u8)) yes,
+        (goes-none 𝓤 H A W 3 (λ _. u32) yes (λ κs x f. refl), (goes-none 𝓤 H A W 3 (λ _. i64) yes (λ κs x f. refl), tt)),
+      ),
+    )
     (own.clauses 𝓤 H A (𝓜 .mem) (𝓡 .run)) code.function
-    (λ κs. (ptr-vals, (slice-vals, (uint-vals w32, (sint-vals w64, tt))))) (λ κs. (mut-tells (named 0) (κs .0) (T.the-row (namedLft 3 1 tt κs)), (shr-slice-tells (named 2) (κs .1 .1 .0) u8, (uint-tells w32, (sint-tells w64, tt)))))
-    (λ κs qs bounds a g are. walk 𝓤 H A W (𝓜 .mem) (𝓡 .run) (κs .0) (κs .1 .0) (κs .1 .1 .0) (qs .0) (qs .1 .0) (qs .1 .1 .0) bounds (a .0 .ptr .0) (a .0 .ptr .1) (a .0 .name) (a .0 .now) (a .1 .0) (a .1 .1 .0) (a .1 .1 .1 .0) (are .1 .1 .0 .1) (are .1 .1 .1 .0) (are .1 .0) (𝓣 .C) (𝓣 .Λ) (fmOf 𝓤 H (W .laws) 𝓣)
+    (λ κs. (ptr-vals, (slice-vals, (uint-vals w32, (sint-vals w64, tt)))))
+    (λ κs. (mut-tells (named 0) (κs .0) (T.the-row (namedLft 3 1 tt κs)), (shr-slice-tells (named 2) (κs .1 .1 .0) u8, (uint-tells w32, (sint-tells w64, tt)))))
+    (λ κs qs bounds a g are. walk 𝓤 H A W (𝓜 .mem) (𝓡 .run) (κs .0) (κs .1 .0) (κs .1 .1 .0) (qs .0) (qs .1 .0) (qs .1 .1 .0) bounds (a .0 .ptr .0)
+    (a .0 .ptr .1) (a .0 .name) (a .0 .now) (a .1 .0) (a .1 .1 .0) (a .1 .1 .1 .0) (are .1 .1 .0 .1) (are .1 .1 .1 .0) (are .1 .0) (𝓣 .C) (𝓣 .Λ)
+    (fmOf 𝓤 H (W .laws) 𝓣)
     (cited 𝓤 H (Callee 𝓤 H A W (𝓜 .mem) (𝓡 .run)) 𝓜 𝓡 code.env #callee callee-def.routine code.calls-seek·seek-to-via-index (callee-thm.met 𝓤 H 𝓜 𝓖 𝓡))))

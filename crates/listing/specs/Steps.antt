@@ -1,4 +1,4 @@
--- What the functions that write a listing ask: room for it, and a file that the check has accepted. Assumes nothing.
+-- Steps on the way: what private functions promise each other. Nothing here need be believed. Assumes nothing.
 use mathlib.Core.Path.{_≡_}
 use Prim.Native.Nat.{ℕ, _*_}
 use Rattle.chunk_index.specs.Walk.{Walk, stop, chunk}
