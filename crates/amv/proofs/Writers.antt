@@ -60,12 +60,12 @@ use denote.Triple.Entry.{Args, Vals, onEntry}
 use denote.Triple.Spec.{tripleOf, Meets as Triples}
 use denote.Triple.Statement.{Contract, Triple}
 use denote.Triple.Walked.{says, Stays, stay-ref, stay-none, gave-slice, walkOf, goes-ref, goes-none, goes-gave-slice, ends-at}
-use Rattle.muxer.specs.Writer.{Outcome, Meets}
+use Rattle.muxer.specs.Writer.{WriteOutcome, MeetsOutcome}
 use Rattle.error.specs.declared.AmvResult.{AmvResult}
 use Rattle.muxer.specs.declared.Writer.{Writer}
 use Rattle.muxer.specs.declared.Wrote.{Wrote}
 use Rattle.amv.specs.declared.writer.AmvMuxer.{AmvMuxer}
-use Rattle.amv.specs.Writer.{Writes}
+use Rattle.amv.specs.Writer.{MuxerWrites}
 use Rattle.error.proofs.AmvResult as N
 use Rattle.error.proofs.AmvResult.Laws as N′
 use Rattle.muxer.proofs.Writer as K
@@ -158,18 +158,23 @@ lendsFn f =
     K′.mir (tyInt w8) (lone (MutSlice (named 0) [] u8 .mir)) (tyRef erased mut (tyInt w8)) (lone (MutSlice erased [] u8 .mir))
 
 -- what says a buffer's last bytes, as many as it had
-abbrev pub Left : {M : Type 1} {𝓤 : URA M} → RefT (List ℕ) → List ℕ → Item 𝓤
-Left x zs = given (length zs ≡ length (now x)) (‵ (finally u8 (x .name) zs))
+abbrev pub SliceLeft : {M : Type 1} {𝓤 : URA M} → RefT (List ℕ) → List ℕ → Item 𝓤
+SliceLeft x zs = given (length zs ≡ length (now x)) (‵ (finally u8 (x .name) zs))
 
-module _ {M : Type 1} (𝓤 : URA M) (H : Heap 𝓤) (A : Atoms 𝓤) (call : Writer → List ℕ → Outcome) where
+module _ {M : Type 1} (𝓤 : URA M) (H : Heap 𝓤) (A : Atoms 𝓤) (call : Writer → List ℕ → WriteOutcome) where
   abbrev saysByValue : Clauses 𝓤 byValue
-  saysByValue κs a = record { ghost = Unit {0}; requires = λ _. emp 𝓤; ensures = λ _ r e. fact 𝓤 (Meets (call (a .0) (now (a .1 .0))) r (now (e .1 .0))) }
+  saysByValue κs a =
+      record {
+        ghost = Unit {0};
+        requires = λ _. emp 𝓤;
+        ensures = λ _ r e. fact 𝓤 (MeetsOutcome (call (a .0) (now (a .1 .0))) r (now (e .1 .0)));
+      }
 
   abbrev saysByRef : Clauses 𝓤 byRef
   saysByRef κs a = record {
     ghost = Unit {0};
     requires = λ _. emp 𝓤;
-    ensures = λ _ r e. fact 𝓤 (Writes (call (now (a .0) .writer) (now (a .1 .0))) r (now (e .0)) (now (e .1 .0)));
+    ensures = λ _ r e. fact 𝓤 (MuxerWrites (call (now (a .0) .writer) (now (a .1 .0))) r (now (e .0)) (now (e .1 .0)));
   }
 
   abbrev pub ByValue : Contract 𝓤
@@ -208,7 +213,7 @@ module _ {M : Type 1} (𝓤 : URA M) (H : Heap 𝓤) (A : Atoms 𝓤) (call : Wr
     Rest = ‵ (owns (MutSlice (named 1) κ′ u8 ∷ []) (x, tt) (vx ∷ [], tt))
 
     abbrev Said : Wrote → List ℕ → Type 0
-    Said t zs = Meets (call (h .writer) (now x)) t zs
+    Said t zs = MeetsOutcome (call (h .writer) (now x)) t zs
 
     takes : ent 𝓤 Start (mean 𝓤 H A (‵ (flft κ q) ⊛ ‵ (MutRef (named 0) κ T.the-row .own ref (vptr b o ∷ [])) ⊛ token ⊛ Rest))
     takes = qed W ((‵ (flft κ q) ⊛ token) ∷ ‵ (owns (MutRef (named 0) κ T.the-row ∷ MutSlice (named 1) κ′ u8 ∷ []) a vals) ∷ []) ∵ split ! $ frame ! $
@@ -221,12 +226,12 @@ module _ {M : Type 1} (𝓤 : URA M) (H : Heap 𝓤) (A : Atoms 𝓤) (call : Wr
         move ! (2 ∷ 0 ∷ []) $ use2 W (raw (ByValue .pre to)) (unasked 𝓤 H A W _) $ frame ! $ nothing ! $ move ! (1 ∷ 0 ∷ []) $ done !
 
     fins : (ws : Lasts byValue (κ′, tt) (h .writer, (x, tt)))
-        → ent 𝓤 (sem 𝓤 H A (lasts byValue (κ′, tt) (h .writer, (x, tt)) ws)) (mean 𝓤 H A (Left x (ws .1 .0)))
+        → ent 𝓤 (sem 𝓤 H A (lasts byValue (κ′, tt) (h .writer, (x, tt)) ws)) (mean 𝓤 H A (SliceLeft x (ws .1 .0)))
     fins ws = qed W (‵ (lasts byValue (κ′, tt) (h .writer, (x, tt)) ws) ∷ []) ∵ fsplit ! $ drop ! $ fsplit ! $ fsplit ! $ move ! (1 ∷ []) $
         feqL ! (λ l. check ! l $ keep ! (0 ∷ []) $ done !)
 
     abbrev after : Wrote → Item 𝓤
-    after t = some (λ (zs : List ℕ). given (Said t zs) (Left x zs ⊛ raw (mean 𝓤 H A token)))
+    after t = some (λ (zs : List ℕ). given (Said t zs) (SliceLeft x zs ⊛ raw (mean 𝓤 H A token)))
 
     abbrev answer : Wrote → Val
     answer t = wrote 𝓤 H A W .answer-val (t .result)
@@ -251,7 +256,7 @@ module _ {M : Type 1} (𝓤 : URA M) (H : Heap 𝓤) (A : Atoms 𝓤) (call : Wr
         (vint w64 (length (x .now)))
         (tt, (tt, (record { fits = room .0 }, tt))) (tt, tt) (tt, (tt, (record { fits = room .0 }, tt))))
         Start (token ⊛ Rest) (raw (ByValue .pre to)) (‵ ftrue) (ByValue .post to) after Post (λ v. W .laws .⇛-trans _) takes gives (known to)
-        (told-last 𝓤 H A W byValue saysByValue to (λ ws. ws .1 .0) (Left x) Said fins (λ t ws. id⊢ 𝓤 _)) ends
+        (told-last 𝓤 H A W byValue saysByValue to (λ ws. ws .1 .0) (SliceLeft x) Said fins (λ t ws. id⊢ 𝓤 _)) ends
 
   module _ (W : Given 𝓤 H A) (𝓣 : Tables 𝓤 H) (f : Name) (known : Triple 𝓤 (𝓣 .C f) ByValue) where
     pub writes-meets : Triples 𝓤 H A (byRef .signature) (WpFn 𝓤 H (𝓣 .C) (𝓣 .Λ) (writesFn f)) (closing 𝓤 H A byRef saysByRef)
@@ -315,7 +320,7 @@ module _ {M : Type 1} (𝓤 : URA M) (H : Heap 𝓤) (A : Atoms 𝓤) (call : Wr
     After = AmvMuxer × List ℕ
 
     abbrev Outcomes : AmvResult → After → Type 0
-    Outcomes t z = Writes (call w (now x)) t (z .0) (z .1)
+    Outcomes t z = MuxerWrites (call w (now x)) t (z .0) (z .1)
 
     abbrev result : AmvResult → After → Wrote
     result t z = record { result = t; writer = z .0 .writer }
@@ -341,15 +346,15 @@ module _ {M : Type 1} (𝓤 : URA M) (H : Heap 𝓤) (A : Atoms 𝓤) (call : Wr
 
     lasts-say : (ν l : ℕ) (γ : GName) (ws : Lasts byRef (ν ∷ κ, (κ, tt)) (lent-to ν l γ .0 .3))
         → ent 𝓤 (sem 𝓤 H A (lasts byRef (ν ∷ κ, (κ, tt)) (lent-to ν l γ .0 .3) ws))
-        (mean 𝓤 H A (‵ (fres γ (T.the-row .coded .code (ws .0))) ⊛ Left x (ws .1 .0)))
+        (mean 𝓤 H A (‵ (fres γ (T.the-row .coded .code (ws .0))) ⊛ SliceLeft x (ws .1 .0)))
     lasts-say ν l γ ws = qed W (‵ (lasts byRef (ν ∷ κ, (κ, tt)) (lent-to ν l γ .0 .3) ws) ∷ []) ∵ fsplit ! $ frame ! $ fsplit ! $ fsplit ! $ move ! (1 ∷ []) $
         feqL ! (λ e. check ! e $ keep ! (0 ∷ []) $ done !)
 
     finishes : (t : AmvResult) (z : After) → Outcomes t z
-        → ent 𝓤 (mean 𝓤 H A (‵ (N.the-row .own t (resultReturned 𝓤 H A W .val t ∷ [])) ⊛ Owns (z .0) ⊛ ‵ (flft κ q) ⊛ Left x (z .1) ⊛ ‵ ftrue ⊛ ‵ ftrue))
+        → ent 𝓤 (mean 𝓤 H A (‵ (N.the-row .own t (resultReturned 𝓤 H A W .val t ∷ [])) ⊛ Owns (z .0) ⊛ ‵ (flft κ q) ⊛ SliceLeft x (z .1) ⊛ ‵ ftrue ⊛ ‵ ftrue))
         (End (res t z))
     finishes t z e =
-        qed W (‵ (N.the-row .own t (resultReturned 𝓤 H A W .val t ∷ [])) ∷ Owns (z .0) ∷ ‵ (flft κ q) ∷ Left x (z .1) ∷ ‵ ftrue ∷ ‵ ftrue ∷ []) ∵
+        qed W (‵ (N.the-row .own t (resultReturned 𝓤 H A W .val t ∷ [])) ∷ Owns (z .0) ∷ ‵ (flft κ q) ∷ SliceLeft x (z .1) ∷ ‵ ftrue ∷ ‵ ftrue ∷ []) ∵
         peeks ! N.the-row (Is N.the-row) (shows 𝓤 H A N.the-row) t _ (λ ist. drop ! $
         peeks ! T.the-row (Is T.the-row) (shows 𝓤 H A T.the-row) (z .0) _ (λ ism. drop ! $ move ! (1 ∷ []) $ learn ! (λ same.
         suffices ! _ (ends-at 𝓤 H A byValue stayed-plain saysByValue W (((κ, tt), (q, tt), tt, args, machine), tt) (res t z) (result t z) (tt, (z .1, tt))
@@ -370,9 +375,9 @@ module _ {M : Type 1} (𝓤 : URA M) (H : Heap 𝓤) (A : Atoms 𝓤) (call : Wr
         _ _ _ _ _ _ (x .ptr .0) (x .ptr .1) (vint w64 (length (x .now))) (tt, (tt, (record { fits = room .0 }, tt))) (tt, tt)
         (tt, (tt, (record { fits = room .0 }, tt))))
         Begin (‵ ftrue ⊛ OwnX) (‵ ftrue) (‵ ftrue) (λ ν l γ. raw (ByRef .pre (lent-to ν l γ))) (λ ν l γ. ByRef .post (lent-to ν l γ)) Outcomes
-        (λ z. Left x (z .1)) End begins lends-to (λ ν l γ. known (lent-to ν l γ))
+        (λ z. SliceLeft x (z .1)) End begins lends-to (λ ν l γ. known (lent-to ν l γ))
         (λ ν l γ. told-last 𝓤 H A W byRef saysByRef (lent-to ν l γ) (λ ws. (ws .0, ws .1 .0))
-        (λ z. ‵ (fres γ (T.the-row .coded .code (z .0))) ⊛ Left x (z .1)) Outcomes (lasts-say ν l γ) (λ t ws. id⊢ 𝓤 _)) finishes
+        (λ z. ‵ (fres γ (T.the-row .coded .code (z .0))) ⊛ SliceLeft x (z .1)) Outcomes (lasts-say ν l γ) (λ t ws. id⊢ 𝓤 _)) finishes
 
   module _ (W : Given 𝓤 H A) (𝓣 : Tables 𝓤 H) (f : Name) (known : Triple 𝓤 (𝓣 .C f) ByRef) where
     pub lent-meets : Triples 𝓤 H A (byValue .signature) (WpFn 𝓤 H (𝓣 .C) (𝓣 .Λ) (lendsFn f)) (closing 𝓤 H A byValue saysByValue)

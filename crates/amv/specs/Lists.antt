@@ -15,13 +15,13 @@ use Rattle.seek.specs.Seek.{saidSeek}
 use Rattle.seek.specs.declared.SeekResult.{SeekResult}
 use Rattle.muxer.specs.Writer.{fresh}
 use Rattle.muxer.specs.declared.Settings.{Settings}
-use Rattle.chunk_index.specs.Chunks.{Chunk}
+use Rattle.walk.specs.Chunks.{Chunk}
 use Rattle.recording.specs.Grammar.{Finished}
 use Rattle.recording.specs.Machine.{Call, read, seek, CallAnswer, readAnswer, seekAnswer, Agreed, OwnIndex}
-use Rattle.recording.specs.Written.{WriteCall, writeStep, Held, WritesAgreed}
-use Rattle.recording.specs.Lists.{Ran, Lent, acceptedBy}
+use Rattle.recording.specs.WriteLists.{WriteCall, writeStep, Held, WritesAgreed}
+use Rattle.recording.specs.Lists.{CallsRan, Lent, acceptedBy}
 use Rattle.amv.specs.Reader.{opened, ReadsNext, Seeks}
-use Rattle.amv.specs.Writer.{Writes}
+use Rattle.amv.specs.Writer.{MuxerWrites}
 use Rattle.amv.specs.declared.reader.AmvDemuxer.{AmvDemuxer}
 use Rattle.amv.specs.declared.writer.AmvMuxer.{AmvMuxer}
 
@@ -35,15 +35,15 @@ pub data DemuxerStep (table : List ℕ) : AmvDemuxer → Call → CallAnswer →
 -- one of the writer
 pub data MuxerStep : Lent AmvMuxer → WriteCall → Answer Unit → Lent AmvMuxer → Type 0 where
   writes : {s next : Lent AmvMuxer} {c : WriteCall} (result : AmvResult)
-      → Writes (writeStep (s .state .writer) (s .buffer) c) result (next .state) (next .buffer) → MuxerStep s c (said result) next
+      → MuxerWrites (writeStep (s .state .writer) (s .buffer) c) result (next .state) (next .buffer) → MuxerStep s c (said result) next
 
 -- Demand 3 of the methods, from a reader and a writer as `new` gives them
 pub record ThroughMethods : Type 0 where
   pub reads-and-seeks : (file : RefT (List ℕ)) (cs : List Chunk) → Bytes (now file) → Finished (now file) cs
       → (table : List ℕ) → OwnIndex (now file) table
-      → (calls : List Call) (said : List CallAnswer) (last : AmvDemuxer) → Ran (DemuxerStep table) (opened file) calls said last
+      → (calls : List Call) (said : List CallAnswer) (last : AmvDemuxer) → CallsRan (DemuxerStep table) (opened file) calls said last
       → Agreed (now file) cs calls (last .walker) said
   pub writing : (s : Settings) → Held s → (m : AmvMuxer) → m .writer ≡ fresh s
       → (buf : List ℕ) (calls : List WriteCall) (said : List (Answer Unit)) (last : Lent AmvMuxer)
-      → Ran MuxerStep (record { state = m; buffer = buf }) calls said last
+      → CallsRan MuxerStep (record { state = m; buffer = buf }) calls said last
       → WritesAgreed s (take (last .state .writer .written) (last .buffer)) (acceptedBy calls said)

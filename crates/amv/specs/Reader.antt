@@ -6,7 +6,7 @@ use lib.IntN.{ℤ}
 use denote.Ref.{RefT, now}
 use Rattle.demuxer.specs.Read.{fresh, saidRead, Placed, readOf}
 use Rattle.demuxer.specs.declared.walker.NextPacket.{NextPacket}
-use Rattle.seek.specs.Seek.{saidSought, seekOf}
+use Rattle.seek.specs.Seek.{saidSeekOutcome, seekOf}
 use Rattle.seek.specs.declared.SeekResult.{SeekResult}
 use Rattle.amv.specs.declared.reader.AmvDemuxer.{AmvDemuxer}
 
@@ -22,5 +22,5 @@ ReadsNext d answer d′ =
 
 abbrev pub Seeks : AmvDemuxer → List ℕ → ℕ → ℤ → SeekResult → AmvDemuxer → Type 0
 Seeks d table stream request result d′ =
-    (saidSought (record { result = result; walker = d′ .walker }) ≡ seekOf table (d .walker) stream request)
+    (saidSeekOutcome (record { result = result; walker = d′ .walker }) ≡ seekOf table (d .walker) stream request)
     × (d′ .file ≡ d .file)

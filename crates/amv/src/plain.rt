@@ -7,12 +7,12 @@ use demuxer::walker::Read;
 use demuxer::walker::Walker;
 use muxer::Writer;
 use muxer::Wrote;
-use seek::Sought;
+use seek::SeekOutcome;
 ghost use mathlib.Core.Path.{_≡_};
 ghost use Rattle.demuxer.specs.Packet.{payloadOf};
 ghost use Rattle.demuxer.specs.Read.{saidRead, Placed, readOf};
-ghost use Rattle.seek.specs.Seek.{saidSought, seekOf};
-ghost use Rattle.muxer.specs.Writer.{headerCall, packetCall, trailerCall, Meets};
+ghost use Rattle.seek.specs.Seek.{saidSeekOutcome, seekOf};
+ghost use Rattle.muxer.specs.Writer.{headerCall, packetCall, trailerCall, MeetsOutcome};
 
 // The packet at a walker, or End, and the walker past it.
 pub fn next_packet(file: &[u8], walker: Walker) -> Read
@@ -27,12 +27,18 @@ pub fn next_packet(file: &[u8], walker: Walker) -> Read
 }
 
 // The walker at the first chunk of a stream whose stamp is the request or later, and the stamp there.
-pub fn seek(file: &[u8], walker: Walker, records: &[u8], stream: u32, request: i64) -> Sought
-    ensures { λ r. ⌜ saidSought r ≡ seekOf (now (records .entry)) walker stream request ⌝ }
+pub fn seek_to_via_index(
+    file: &[u8],
+    walker: Walker,
+    table: &[u8],
+    stream: u32,
+    request: i64,
+) -> SeekOutcome
+    ensures { λ r. ⌜ saidSeekOutcome r ≡ seekOf (now (table .entry)) walker stream request ⌝ }
 {
     let mut reader = AmvDemuxer { file, walker };
-    let result = reader.seek(records, stream, request);
-    Sought {
+    let result = reader.seek_to_via_index(table, stream, request);
+    SeekOutcome {
         result,
         walker: reader.walker,
     }
@@ -48,7 +54,7 @@ pub fn payload(file: &[u8], packet: Packet) -> &[u8]
 
 // The prelude written to the buffer, and the writer after it.
 pub fn write_header(writer: Writer, buf: &mut [u8]) -> Wrote
-    ensures { λ r. ⌜ Meets (headerCall writer (now (buf .entry))) r (now (buf .exit)) ⌝ }
+    ensures { λ r. ⌜ MeetsOutcome (headerCall writer (now (buf .entry))) r (now (buf .exit)) ⌝ }
 {
     let mut muxer = AmvMuxer { writer };
     let result = muxer.write_header(buf);
@@ -60,7 +66,7 @@ pub fn write_header(writer: Writer, buf: &mut [u8]) -> Wrote
 
 // A packet written after what is written, and the writer after it.
 pub fn write_packet(writer: Writer, buf: &mut [u8], payload: &[u8], stream: u32) -> Wrote
-    ensures { λ r. ⌜ Meets (packetCall writer (now (payload .entry)) stream (now (buf .entry))) r (now (buf .exit)) ⌝ }
+    ensures { λ r. ⌜ MeetsOutcome (packetCall writer (now (payload .entry)) stream (now (buf .entry))) r (now (buf .exit)) ⌝ }
 {
     let mut muxer = AmvMuxer { writer };
     let result = muxer.write_packet(buf, payload, stream);
@@ -72,7 +78,7 @@ pub fn write_packet(writer: Writer, buf: &mut [u8], payload: &[u8], stream: u32)
 
 // The trailer written, and the writer after it.
 pub fn write_trailer(writer: Writer, buf: &mut [u8]) -> Wrote
-    ensures { λ r. ⌜ Meets (trailerCall writer (now (buf .entry))) r (now (buf .exit)) ⌝ }
+    ensures { λ r. ⌜ MeetsOutcome (trailerCall writer (now (buf .entry))) r (now (buf .exit)) ⌝ }
 {
     let mut muxer = AmvMuxer { writer };
     let result = muxer.write_trailer(buf);

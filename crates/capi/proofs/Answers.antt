@@ -12,7 +12,7 @@ use lib.ListN.{length, take, drop, length-take, length-drop}
 use Rattle.error.specs.Answer.{Answer, accepted, refused}
 use Rattle.fields.specs.File.{withinLimit}
 use Rattle.demuxer.specs.Head.{headAt, countOf}
-use Rattle.demuxer.specs.Packet.{Shown, durationOf, ticks, payloadOf, shownOf}
+use Rattle.demuxer.specs.Packet.{Shown, packetDuration, ticks, payloadOf, shownOf}
 use Rattle.demuxer.specs.Position.{inRange}
 use Rattle.demuxer.specs.Read.{ReadAnswer, packet, End, Reading, refuse, payloadAt, cutOff, readFrame, readSound, readHead, readChunk, readOf}
 use Rattle.demuxer.specs.Read as read
@@ -21,7 +21,7 @@ use Rattle.demuxer.specs.declared.head.Head.the-variants as head
 use Rattle.demuxer.specs.declared.packet.Packet.{Packet}
 use Rattle.demuxer.specs.declared.packet.PacketDuration.the-variants.{Ticks, None}
 use Rattle.demuxer.specs.declared.walker.Walker.{Walker}
-use Rattle.words.specs.Out.{Says, given, checked, shownDuration, readWords}
+use Rattle.words.specs.Out.{OutSays, given, checked, shownDuration, readWords}
 use Rattle.words.specs.State.{word}
 use Rattle.capi.specs.Calls.{single}
 use Rattle.capi.specs.Lists.{answered, packetIn, readIn}
@@ -32,7 +32,7 @@ use Rattle.capi.specs.Lists.{answered, packetIn, readIn}
 record Named (file : List ℕ) (w : Walker) (p : Shown) : Type 0 where
   inside : w .position .cursor + 8 + length (p .payload) ≤ length file
   payload-is : p .payload ≡ take (length (p .payload)) (drop (w .position .cursor + 8) file)
-  duration-is : ticks (durationOf (shownDuration (p .duration))) ≡ p .duration
+  duration-is : ticks (packetDuration (shownDuration (p .duration))) ≡ p .duration
 
 AnswerNamed : List ℕ → Walker → ReadAnswer → Type 0
 AnswerNamed file w (packet p) = Named file w p
@@ -40,16 +40,16 @@ AnswerNamed file w End = Unit
 AnswerNamed file w (read.refused r) = Unit
 
 -- a duration that is shown as none where it is 0
-shown-back : (n : ℕ) → ticks (durationOf (shownDuration (ticks (durationOf n)))) ≡ ticks (durationOf n)
+shown-back : (n : ℕ) → ticks (packetDuration (shownDuration (ticks (packetDuration n)))) ≡ ticks (packetDuration n)
 shown-back n = go _ refl
   where
-    go : (b : Bool) → eqb n 0 ≡ b → ticks (durationOf (shownDuration (ticks (cond b None (Ticks n))))) ≡ ticks (cond b None (Ticks n))
+    go : (b : Bool) → eqb n 0 ≡ b → ticks (packetDuration (shownDuration (ticks (cond b None (Ticks n))))) ≡ ticks (cond b None (Ticks n))
     go true e = refl
     go false e = rw e
 
 module _ (file : List ℕ) (w : Walker) where
   named : (size stream stamp : ℕ) (duration : Option ℕ) → leb (w .position .cursor + 8 + size) (length file) ≡ true
-      → ticks (durationOf (shownDuration duration)) ≡ duration
+      → ticks (packetDuration (shownDuration duration)) ≡ duration
       → Named file w (record { stream = stream; payload = payloadAt file (w .position .cursor) size; stamp = stamp; duration = duration })
   named size stream stamp duration h d =
       let l : w .position .cursor + 8 + size ≤ length file = leb-true _ _ h in
@@ -62,7 +62,7 @@ module _ (file : List ℕ) (w : Walker) where
 
   -- a payload that is whole, or End
   whole : (size stream stamp : ℕ) (duration : Option ℕ) (next : Walker) (b : Bool) → leb (w .position .cursor + 8 + size) (length file) ≡ b
-      → ticks (durationOf (shownDuration duration)) ≡ duration
+      → ticks (packetDuration (shownDuration duration)) ≡ duration
       → AnswerNamed file w
       (cond {A = Reading} b
       (record {
@@ -102,7 +102,7 @@ module _ (file : List ℕ) (w : Walker) where
   unfolding payloadOf
   payload-named p n q a b = rw (a, b, le-leb _ _ (n .inside)) (sym (n .payload-is))
 
-  read-says : (a : ReadAnswer) → AnswerNamed file w a → (number : ℕ) (out : List ℕ) → Says 7 (readWords w a) number out
+  read-says : (a : ReadAnswer) → AnswerNamed file w a → (number : ℕ) (out : List ℕ) → OutSays 7 (readWords w a) number out
       → readIn file number out ≡ a
   unfolding AnswerNamed readIn shownOf
   read-says (packet p) n number out s =
@@ -110,8 +110,8 @@ module _ (file : List ℕ) (w : Walker) where
       let start : word out 3 ≡ w .position .cursor + 8 = ap (λ (l : List ℕ). word l 3) (s .words) in
       let len : word out 4 ≡ length (p .payload) = ap (λ (l : List ℕ). word l 4) (s .words) in
       let payload : payloadOf file (packetIn out) ≡ p .payload = payload-named p n (packetIn out) start len in
-      let duration : ticks (durationOf (word out 6)) ≡ p .duration =
-      ap (λ (l : List ℕ). ticks (durationOf (word l 6))) (s .words) ∙ n .duration-is in
+      let duration : ticks (packetDuration (word out 6)) ≡ p .duration =
+      ap (λ (l : List ℕ). ticks (packetDuration (word l 6))) (s .words) ∙ n .duration-is in
       rw (s .number, first)
       (λ i. packet (record { stream = word (s .words i) 2; payload = payload i; stamp = word (s .words i) 5; duration = duration i }))
   read-says End n number out s = rw (s .number, s .words) refl
@@ -119,19 +119,19 @@ module _ (file : List ℕ) (w : Walker) where
       let d : number ≡ 0 → ⊥ = s .zero in
       rw (ne-eqb number 0 d) (λ i. read.refused (record { number = s .number i; place = word (s .words i) 0 }))
 
-  pub read-told : {number : ℕ} {out : List ℕ} → Says 7 (readWords w (readOf file w .answer)) number out
+  pub read-told : {number : ℕ} {out : List ℕ} → OutSays 7 (readWords w (readOf file w .answer)) number out
       → readIn file number out ≡ readOf file w .answer
   read-told s = read-says _ read-named _ _ s
 
 -- ---- a seek and a writing call
 
-pub seek-told : (a : Answer ℕ) {number : ℕ} {out : List ℕ} → Says 2 (given single a) number out → answered number out (word out 1) ≡ a
+pub seek-told : (a : Answer ℕ) {number : ℕ} {out : List ℕ} → OutSays 2 (given single a) number out → answered number out (word out 1) ≡ a
 seek-told (accepted stamp) s = rw (s .number, s .words) refl
 seek-told (refused r) {number} {out} s =
     let d : number ≡ 0 → ⊥ = s .zero in
     rw (ne-eqb number 0 d) (λ i. refused (record { number = s .number i; place = word (s .words i) 0 }))
 
-pub write-told : (a : Answer Unit) {number : ℕ} {out : List ℕ} → Says 1 (checked a) number out → answered number out tt ≡ a
+pub write-told : (a : Answer Unit) {number : ℕ} {out : List ℕ} → OutSays 1 (checked a) number out → answered number out tt ≡ a
 write-told (accepted u) s = rw (s .number) refl
 write-told (refused r) {number} {out} s =
     let d : number ≡ 0 → ⊥ = s .zero in

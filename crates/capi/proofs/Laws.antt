@@ -16,14 +16,14 @@ use Rattle.demuxer.specs.declared.walker.Walker.{Walker}
 use Rattle.demuxer.specs.declared.walker.Read.{Read}
 use Rattle.demuxer.specs.declared.walker.NextPacket.{NextPacket}
 use Rattle.seek.specs.Seek.{Seeking, seekOf}
-use Rattle.muxer.specs.Writer.{Outcome, Meets, outcome, afterPacket, packetQuestions, packetCall}
+use Rattle.muxer.specs.Writer.{WriteOutcome, MeetsOutcome, outcome, afterPacket, packetQuestions, packetCall}
 use Rattle.muxer.specs.declared.Writer.{Writer}
 use Rattle.muxer.specs.declared.Wrote.{Wrote}
-use Rattle.words.specs.Out.{Says, given, checked, unlessRefused, readWords}
+use Rattle.words.specs.Out.{OutSays, given, checked, unlessRefused, readWords}
 use Rattle.words.specs.State.{walkerOf, walkerWords, writerOf, writerWords, countsInto}
 use Rattle.words.proofs.Laws.{says-refused}
 use Rattle.words.proofs.States.{atCounts, counts-kept}
-use Rattle.capi.specs.Calls.{Walks, nextAnswer, Writes}
+use Rattle.capi.specs.Calls.{WalkerCall, nextAnswer, WriterCall}
 
 -- what holds of both choices
 pub either : {A : Type 0} (P : A → Type 0) (b : Bool) (x y : A) → P x → P y → P (cond b x y)
@@ -42,15 +42,15 @@ gave saidOf f e t = ap (λ a. given f a) (known saidOf e t)
 -- ---- a state's words: the call goes on with the state that they spell
 
 module _ {S : Type 0} {decoded : Answer S} {s : S} (e : decoded ≡ accepted s) where
-  legal-says : (n : ℕ) (f : S → Answer (List ℕ)) {number : ℕ} {out : List ℕ} → Says n (f s) number out → Says n (andThen decoded f) number out
-  legal-says n f {number} {out} said = subst (λ (a : Answer (List ℕ)). Says n a number out) (ap (λ d. andThen d f) (sym e)) said
+  legal-says : (n : ℕ) (f : S → Answer (List ℕ)) {number : ℕ} {out : List ℕ} → OutSays n (f s) number out → OutSays n (andThen decoded f) number out
+  legal-says n f {number} {out} said = subst (λ (a : Answer (List ℕ)). OutSays n a number out) (ap (λ d. andThen d f) (sym e)) said
 
   legal-leaves : (before : List ℕ) (after : S → List ℕ) → after s ≡ unlessRefused before decoded after
   legal-leaves before after = ap (λ d. unlessRefused before d after) (sym e)
 
 -- or they spell none: 1 at 0, and nothing changes
 module _ {S : Type 0} {decoded : Answer S} (e : decoded ≡ refused (numbered 1 0)) where
-  illegal-says : (n : ℕ) (f : S → Answer (List ℕ)) → Says n (andThen decoded f) 1 (0 ∷ replicate (n - 1) 0)
+  illegal-says : (n : ℕ) (f : S → Answer (List ℕ)) → OutSays n (andThen decoded f) 1 (0 ∷ replicate (n - 1) 0)
   illegal-says n f = says-refused n (ap (λ d. andThen d f) e) refl refl (λ z. omega arith)
 
   illegal-leaves : (before : List ℕ) (after : S → List ℕ) → before ≡ unlessRefused before decoded after
@@ -59,11 +59,11 @@ module _ {S : Type 0} {decoded : Answer S} (e : decoded ≡ refused (numbered 1 
 -- ---- a read and a seek
 
 module _ (n : ℕ) (answer : Walker → Answer (List ℕ)) (next : Walker → Walker) (ws : List ℕ) where
-  pub walks-illegal : walkerOf ws ≡ refused (numbered 1 0) → Walks n answer next ws 1 (0 ∷ replicate (n - 1) 0) ws
+  pub walks-illegal : walkerOf ws ≡ refused (numbered 1 0) → WalkerCall n answer next ws 1 (0 ∷ replicate (n - 1) 0) ws
   walks-illegal e = record { says = illegal-says e n answer; walker = illegal-leaves e ws _ }
 
-  pub walks : {w : Walker} {number : ℕ} {out after : List ℕ} → walkerOf ws ≡ accepted w → Says n (answer w) number out
-      → after ≡ walkerWords (next w) → Walks n answer next ws number out after
+  pub walks : {w : Walker} {number : ℕ} {out after : List ℕ} → walkerOf ws ≡ accepted w → OutSays n (answer w) number out
+      → after ≡ walkerWords (next w) → WalkerCall n answer next ws number out after
   walks e said o = record { says = legal-says e n answer said; walker = o ∙ legal-leaves e ws (λ w. walkerWords (next w)) }
 
 -- the words of a read's answer that is known
@@ -78,8 +78,8 @@ as-requested table w stream request f e = e ∙ ap (seekOf table w stream) (toZ-
 
 -- ---- a writing call
 
-module _ (call : Writer → Outcome) (ws buf : List ℕ) where
-  pub writes-illegal : writerOf ws ≡ refused (numbered 1 0) → Writes call ws buf 1 (0 ∷ []) ws buf
+module _ (call : Writer → WriteOutcome) (ws buf : List ℕ) where
+  pub writes-illegal : writerOf ws ≡ refused (numbered 1 0) → WriterCall call ws buf 1 (0 ∷ []) ws buf
   writes-illegal e =
       record {
         says = illegal-says e 1 (λ w. checked (call w .answer));
@@ -87,13 +87,13 @@ module _ (call : Writer → Outcome) (ws buf : List ℕ) where
         buffer = illegal-leaves e buf (λ w. call w .buffer);
       }
 
-  pub writes : {w : Writer} {r : Wrote} {number : ℕ} {out words after : List ℕ} → writerOf ws ≡ accepted w → Meets (call w) r after
-      → words ≡ writerWords (r .writer) → Says 1 (checked (said (r .result))) number out → Writes call ws buf number out words after
+  pub writes : {w : Writer} {r : Wrote} {number : ℕ} {out words after : List ℕ} → writerOf ws ≡ accepted w → MeetsOutcome (call w) r after
+      → words ≡ writerWords (r .writer) → OutSays 1 (checked (said (r .result))) number out → WriterCall call ws buf number out words after
   writes {number = number} {out = out} e m o s =
       record {
         says =
             legal-says e 1 (λ w. checked (call w .answer))
-            (subst (λ (a : Answer (List ℕ)). Says 1 a number out) (ap checked (m .answer)) s);
+            (subst (λ (a : Answer (List ℕ)). OutSays 1 a number out) (ap checked (m .answer)) s);
         writer = o ∙ ap writerWords (m .writer) ∙ legal-leaves e ws (λ w. writerWords (call w .writer));
         buffer = m .buffer ∙ legal-leaves e buf (λ w. call w .buffer);
       }
@@ -106,7 +106,7 @@ outcome-counts (accepted u) w buf size stream after = refl
 outcome-counts (refused r) w buf size stream after = refl
 
 pub packet-words : (ws buf payload : List ℕ) (stream : ℕ) {w : Writer} {r : Wrote} {after words : List ℕ} → writerOf ws ≡ accepted w
-    → Meets (packetCall w payload stream buf) r after → words ≡ countsInto (r .writer .written) (r .writer .frames) ws
+    → MeetsOutcome (packetCall w payload stream buf) r after → words ≡ countsInto (r .writer .written) (r .writer .frames) ws
     → words ≡ writerWords (r .writer)
 unfolding packetCall
 packet-words ws buf payload stream {w} e m o =

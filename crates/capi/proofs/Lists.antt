@@ -10,6 +10,7 @@ use borrow.Author.Tests.{ne-eqb, leb-true}
 use lib.Dec.{leb}
 use lib.IntN.{ℤ}
 use lib.ListN.{length, take}
+use Rattle.fields.specs.Capped.{u32Max}
 use Rattle.error.specs.Answer.{Answer, accepted, refused, numbered, numberOf, andThen}
 use Rattle.error.proofs.Answers.{both}
 use Rattle.fields.specs.File.{withinLimit}
@@ -32,14 +33,14 @@ use Rattle.muxer.specs.declared.Settings.{Settings}
 use Rattle.muxer.specs.declared.Writer.{Writer}
 use Rattle.recording.specs.Machine.{Call, read, seek, CallAnswer, readAnswer, call}
 use Rattle.recording.specs.Machine as machine
-use Rattle.recording.specs.Written.{WriteCall, header, packet, trailer, writeStep, Held, WritesAgreed}
-use Rattle.recording.specs.Lists.{Ran, no-call, one-more, Calling, Lent, Writing, acceptedBy}
+use Rattle.recording.specs.WriteLists.{WriteCall, header, packet, trailer, writeStep, Held, WritesAgreed}
+use Rattle.recording.specs.Lists.{CallsRan, no-call, one-more, Calling, Lent, Writing, acceptedBy}
 use Rattle.recording.proofs.Numbers.{Numbered, ask-numbered, then-numbered, ReadNumbered, read-numbered, seek-numbered, step-numbered}
 use Rattle.recording.proofs.Runs.{every-list}
-use Rattle.words.specs.Out.{Says, outOf, checked, unlessRefused, readWords}
+use Rattle.words.specs.Out.{OutSays, outOf, checked, unlessRefused, readWords}
 use Rattle.words.specs.State.{word, notMet, trailerOf, trailerWord, walkerLegal, walkerOf, walkerWords, settingsLegal, writerLegal, writerOf, writerWords}
 use Rattle.words.proofs.States.{words-stand}
-use Rattle.capi.specs.Calls.{single, Walks, nextAnswer, nextWalker, seekAnswer, seekWalker, writerAfter, bufferAfter}
+use Rattle.capi.specs.Calls.{single, WalkerCall, nextAnswer, nextWalker, seekAnswer, seekWalker, writerAfterCall, bufferAfterCall}
 use Rattle.capi.specs.Lists.{answered, WalkerStep, reads, seeks, step, WriterStep, writes, startsWith, ThroughWords}
 use Rattle.capi.proofs.Laws.{either}
 use Rattle.capi.proofs.Answers.{read-told, seek-told, write-told}
@@ -103,9 +104,9 @@ spells ws w i = ap walkerOf (i .0) ∙ words-stand .walker-back w (i .1)
 
 -- what a call over them says and leaves
 module _ {n : ℕ} (answer : Walker → Answer (List ℕ)) (next : Walker → Walker) {ws : List ℕ} {number : ℕ} {out after : List ℕ} (w : Walker)
-    (i : Stands ws w) (h : Walks n answer next ws number out after) where
-  walker-says : Says n (answer w) number out
-  walker-says = subst (λ (d : Answer Walker). Says n (andThen d answer) number out) (spells ws w i) (h .says)
+    (i : Stands ws w) (h : WalkerCall n answer next ws number out after) where
+  walker-says : OutSays n (answer w) number out
+  walker-says = subst (λ (d : Answer Walker). OutSays n (andThen d answer) number out) (spells ws w i) (h .says)
 
   walker-left : after ≡ walkerWords (next w)
   walker-left = h .walker ∙ ap (λ d. unlessRefused ws d (λ w. walkerWords (next w))) (spells ws w i)
@@ -146,7 +147,7 @@ StandsFor ws w = (ws ≡ writerWords w) × Legal w
 writing : Writing StandsFor WriterStep
 writing s c answer next w i (writes number out h) =
     let e : writerOf (s .state) ≡ accepted w = ap writerOf (i .0) ∙ words-stand .writer-back w (i .1) in (
-      write-told _ (subst (λ (d : Answer Writer). Says 1 (andThen d (λ w. checked (step (s .buffer) c w .answer))) number out) e (h .says)),
+      write-told _ (subst (λ (d : Answer Writer). OutSays 1 (andThen d (λ w. checked (step (s .buffer) c w .answer))) number out) e (h .says)),
       (
         (
           h .writer ∙ ap (λ d. unlessRefused (s .state) d (λ w. writerWords (step (s .buffer) c w .writer))) e,
@@ -164,22 +165,22 @@ legal-held s l =
     let b = both _ _ (a .0) in
     let c = both _ _ (b .0) in
     let d = both _ _ (c .0) in
-    let f = leb-true (s .width) 4294967295 (d .0) in
-    let g = leb-true (s .height) 4294967295 (d .1) in
-    let h = leb-true (s .fps) 4294967295 (c .1) in
-    let k = leb-true (s .rate) 4294967295 (b .1) in
+    let f = leb-true (s .width) u32Max (d .0) in
+    let g = leb-true (s .height) u32Max (d .1) in
+    let h = leb-true (s .fps) u32Max (c .1) in
+    let k = leb-true (s .rate) u32Max (b .1) in
     record { width-held = omega arith; height-held = omega arith; fps-held = omega arith; rate-held = omega arith }
 
 -- of others no call is accepted
 none-accepted : {s last : Lent (List ℕ)} {calls : List WriteCall} {said : List (Answer Unit)} → settingsLegal (s .state) ≡ false
-    → Ran WriterStep s calls said last → acceptedBy calls said ≡ []
+    → CallsRan WriterStep s calls said last → acceptedBy calls said ≡ []
 unfolding acceptedBy writerLegal
 none-accepted l no-call = refl
 none-accepted {s} l (one-more (writes {c = c} number out h) rest) =
     let e : writerOf (s .state) ≡ refused (numbered 1 0) = rw l in
     let a : answered number out tt ≡ refused (numbered 1 0) =
     write-told (refused (numbered 1 0))
-    (subst (λ (d : Answer Writer). Says 1 (andThen d (λ w. checked (step (s .buffer) c w .answer))) number out) e (h .says)) in
+    (subst (λ (d : Answer Writer). OutSays 1 (andThen d (λ w. checked (step (s .buffer) c w .answer))) number out) e (h .says)) in
     let k = h .writer ∙ ap (λ d. unlessRefused (s .state) d (λ w. writerWords (step (s .buffer) c w .writer))) e in
     rw a (none-accepted (ap settingsLegal k ∙ l) rest)
 
@@ -191,7 +192,7 @@ nothing-written s file said e =
     }
 
 written : (s : Settings) (buf : List ℕ) (calls : List WriteCall) (said : List (Answer Unit)) (last : Lent (List ℕ))
-    → Ran WriterStep (startsWith s buf) calls said last
+    → CallsRan WriterStep (startsWith s buf) calls said last
     → WritesAgreed s (take (word (last .state) 7) (last .buffer)) (acceptedBy calls said)
 written s buf calls said last ran = go _ refl
   where
@@ -204,7 +205,7 @@ written s buf calls said last ran = go _ refl
 
 -- ---- every call has an answer
 
-said-of : (n : ℕ) (a : Answer (List ℕ)) → Numbered a → Says n a (numberOf a) (outOf n a)
+said-of : (n : ℕ) (a : Answer (List ℕ)) → Numbered a → OutSays n a (numberOf a) (outOf n a)
 said-of n (accepted x) k = record { number = refl; words = refl; zero = λ _. tt }
 said-of n (refused r) k = record { number = refl; words = refl; zero = k }
 
@@ -250,7 +251,7 @@ walker-runs file table ws (seek stream request) = (
 writer-runs : (s : Lent (List ℕ)) (c : WriteCall) → (answer : Answer Unit) × (next : Lent (List ℕ)) × WriterStep s c answer next
 writer-runs s c = (
   _,
-  record { state = writerAfter (step (s .buffer) c) (s .state); buffer = bufferAfter (step (s .buffer) c) (s .state) (s .buffer) },
+  record { state = writerAfterCall (step (s .buffer) c) (s .state); buffer = bufferAfterCall (step (s .buffer) c) (s .state) (s .buffer) },
   writes _ _
       (record {
         says =

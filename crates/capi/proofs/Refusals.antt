@@ -20,7 +20,7 @@ use Rattle.chunk_index.specs.declared.entry.ChunkIndexEntry.{ChunkIndexEntry}
 use Rattle.seek.specs.Seek.{seekQuestions, find, landed, soughtFrom, seekOf}
 use Rattle.muxer.proofs.Writes.{header-refused, packet-refused, trailer-refused}
 use Rattle.muxer.specs.declared.Writer.{Writer}
-use Rattle.recording.specs.Written.{WriteCall, header, packet, trailer, writeStep}
+use Rattle.recording.specs.WriteLists.{WriteCall, header, packet, trailer, writeStep}
 use Rattle.words.specs.Out.{given, checked, unlessRefused, readWords}
 use Rattle.words.specs.State.{walkerOf, walkerWords, writerOf, writerWords}
 use Rattle.words.proofs.States.{words-stand}

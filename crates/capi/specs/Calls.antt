@@ -8,14 +8,15 @@ use Rattle.error.specs.Answer.{Answer, andThen}
 use Rattle.prelude.specs.Prelude.{parseOf, strictOf}
 use Rattle.demuxer.specs.Read.{readOf}
 use Rattle.demuxer.specs.declared.walker.Walker.{Walker}
-use Rattle.chunk_index.specs.Index.{buildOf, summaryOf}
-use Rattle.chunk_index.specs.declared.index.ChunkCounts.{ChunkCounts}
+use Rattle.chunk_index.specs.Index.{buildOf}
+use Rattle.chunk_index.specs.Summary.{summaryOf}
+use Rattle.chunk_index.specs.declared.summary.ChunkCounts.{ChunkCounts}
 use Rattle.seek.specs.Seek.{seekOf}
-use Rattle.muxer.specs.Writer.{Outcome}
+use Rattle.muxer.specs.Writer.{WriteOutcome}
 use Rattle.muxer.specs.declared.Writer.{Writer}
-use Rattle.recording.specs.Check.{checkOf}
-use Rattle.recording.specs.declared.check.Totals.{Totals}
-use Rattle.words.specs.Out.{Says, given, checked, unlessRefused, readWords, preludeWords}
+use Rattle.finished.specs.Check.{checkOf}
+use Rattle.finished.specs.declared.Totals.{Totals}
+use Rattle.words.specs.Out.{OutSays, given, checked, unlessRefused, readWords, preludeWords}
 use Rattle.words.specs.State.{markWord, walkerOf, walkerWords, writerOf, writerWords}
 
 -- one number
@@ -45,13 +46,13 @@ abbrev pub parseAnswer : List ℕ → Bool → Answer (List ℕ)
 parseAnswer file strict = given preludeWords (cond strict (strictOf file) (parseOf file))
 
 -- the walker's words after a call
-abbrev pub walkerAfter : (Walker → Walker) → List ℕ → List ℕ
-walkerAfter next ws = unlessRefused ws (walkerOf ws) (λ w. walkerWords (next w))
+abbrev pub walkerAfterCall : (Walker → Walker) → List ℕ → List ℕ
+walkerAfterCall next ws = unlessRefused ws (walkerOf ws) (λ w. walkerWords (next w))
 
 -- what a call over a walker's words returns and leaves: `out`, of n words, and the walker's
-pub record Walks (n : ℕ) (answer : Walker → Answer (List ℕ)) (next : Walker → Walker) (ws : List ℕ) (returned : ℕ) (out wsAfter : List ℕ) : Type 0 where
-  pub says : Says n (andThen (walkerOf ws) answer) returned out
-  pub walker : wsAfter ≡ walkerAfter next ws
+pub record WalkerCall (n : ℕ) (answer : Walker → Answer (List ℕ)) (next : Walker → Walker) (ws : List ℕ) (returned : ℕ) (out wsAfter : List ℕ) : Type 0 where
+  pub says : OutSays n (andThen (walkerOf ws) answer) returned out
+  pub walker : wsAfter ≡ walkerAfterCall next ws
 
 -- a packet or End
 abbrev pub nextAnswer : List ℕ → Walker → Answer (List ℕ)
@@ -68,14 +69,14 @@ abbrev pub seekWalker : List ℕ → ℕ → ℤ → Walker → Walker
 seekWalker table stream request w = seekOf table w stream request .walker
 
 -- the writer's words and the buffer after a writing call
-abbrev pub writerAfter : (Writer → Outcome) → List ℕ → List ℕ
-writerAfter call ws = unlessRefused ws (writerOf ws) (λ w. writerWords (call w .writer))
+abbrev pub writerAfterCall : (Writer → WriteOutcome) → List ℕ → List ℕ
+writerAfterCall call ws = unlessRefused ws (writerOf ws) (λ w. writerWords (call w .writer))
 
-abbrev pub bufferAfter : (Writer → Outcome) → List ℕ → List ℕ → List ℕ
-bufferAfter call ws buf = unlessRefused buf (writerOf ws) (λ w. call w .buffer)
+abbrev pub bufferAfterCall : (Writer → WriteOutcome) → List ℕ → List ℕ → List ℕ
+bufferAfterCall call ws buf = unlessRefused buf (writerOf ws) (λ w. call w .buffer)
 
 -- what a writing call over a writer's words returns and leaves: `out`, the writer's words and the buffer
-pub record Writes (call : Writer → Outcome) (ws buf : List ℕ) (returned : ℕ) (out wsAfter bufAfter : List ℕ) : Type 0 where
-  pub says : Says 1 (andThen (writerOf ws) (λ w. checked (call w .answer))) returned out
-  pub writer : wsAfter ≡ writerAfter call ws
-  pub buffer : bufAfter ≡ bufferAfter call ws buf
+pub record WriterCall (call : Writer → WriteOutcome) (ws buf : List ℕ) (returned : ℕ) (out wsAfter bufAfter : List ℕ) : Type 0 where
+  pub says : OutSays 1 (andThen (writerOf ws) (λ w. checked (call w .answer))) returned out
+  pub writer : wsAfter ≡ writerAfterCall call ws
+  pub buffer : bufAfter ≡ bufferAfterCall call ws buf

@@ -9,23 +9,23 @@ use lib.IntN.{ℤ}
 use lib.ListN.{take}
 use Rattle.error.specs.Answer.{Answer, accepted, numbered, ask}
 use Rattle.fields.specs.Le.{Bytes}
-use Rattle.demuxer.specs.Packet.{durationOf, shownOf}
+use Rattle.demuxer.specs.Packet.{packetDuration, shownOf}
 use Rattle.demuxer.specs.Read.{ReadAnswer, packet, End}
 use Rattle.demuxer.specs.Read as demuxer
 use Rattle.demuxer.specs.declared.packet.Packet.{Packet}
 use Rattle.demuxer.specs.declared.walker.Walker.{Walker}
-use Rattle.chunk_index.specs.Chunks.{Chunk}
-use Rattle.muxer.specs.Writer.{Outcome}
+use Rattle.walk.specs.Chunks.{Chunk}
+use Rattle.muxer.specs.Writer.{WriteOutcome}
 use Rattle.muxer.specs.Writer as muxer
 use Rattle.muxer.specs.declared.Writer.{Writer}
 use Rattle.muxer.specs.declared.Settings.{Settings}
 use Rattle.recording.specs.Grammar.{Finished}
 use Rattle.recording.specs.Machine.{Call, read, seek, CallAnswer, readAnswer, Agreed, OwnIndex}
 use Rattle.recording.specs.Machine as machine
-use Rattle.recording.specs.Written.{WriteCall, writeStep, WritesAgreed}
-use Rattle.recording.specs.Lists.{Ran, Lent, acceptedBy}
+use Rattle.recording.specs.WriteLists.{WriteCall, writeStep, WritesAgreed}
+use Rattle.recording.specs.Lists.{CallsRan, Lent, acceptedBy}
 use Rattle.words.specs.State.{word, walkerOf, walkerWords, writerWords}
-use Rattle.capi.specs.Calls.{Walks, nextAnswer, nextWalker, seekAnswer, seekWalker, Writes}
+use Rattle.capi.specs.Calls.{WalkerCall, nextAnswer, nextWalker, seekAnswer, seekWalker, WriterCall}
 
 -- ---- what a call says to a caller, in the terms of include/amv.h
 
@@ -35,7 +35,7 @@ answered number out value = ask (eqb number 0) number (word out 0) (accepted val
 
 -- "place, 1 for a packet or 0 for End, stream .., offset and length of the payload in the file, stamp, duration (0: none)"
 abbrev pub packetIn : List ℕ → Packet
-packetIn out = record { stream = word out 2; start = word out 3; len = word out 4; stamp = word out 5; duration = durationOf (word out 6) }
+packetIn out = record { stream = word out 2; start = word out 3; len = word out 4; stamp = word out 5; duration = packetDuration (word out 6) }
 
 unfoldable pub readIn : List ℕ → ℕ → List ℕ → ReadAnswer
 readIn file number out =
@@ -46,20 +46,20 @@ readIn file number out =
 -- ---- one call: what its function's contract says that it returns and leaves, and what that says
 
 pub data WalkerStep (file table : List ℕ) : List ℕ → Call → CallAnswer → List ℕ → Type 0 where
-  reads : {ws next : List ℕ} (number : ℕ) (out : List ℕ) → Walks 7 (nextAnswer file) (nextWalker file) ws number out next
+  reads : {ws next : List ℕ} (number : ℕ) (out : List ℕ) → WalkerCall 7 (nextAnswer file) (nextWalker file) ws number out next
       → WalkerStep file table ws read (readAnswer (readIn file number out)) next
   -- "place, the stream's stamp where the walker stands"
   seeks : {ws next : List ℕ} {stream : ℕ} {request : ℤ} (number : ℕ) (out : List ℕ)
-      → Walks 2 (seekAnswer table stream request) (seekWalker table stream request) ws number out next
+      → WalkerCall 2 (seekAnswer table stream request) (seekWalker table stream request) ws number out next
       → WalkerStep file table ws (seek stream request) (machine.seekAnswer (answered number out (word out 1))) next
 
 -- a writing call on the buffer as it is
-abbrev pub step : List ℕ → WriteCall → Writer → Outcome
+abbrev pub step : List ℕ → WriteCall → Writer → WriteOutcome
 step buf c w = writeStep w buf c
 
 pub data WriterStep : Lent (List ℕ) → WriteCall → Answer Unit → Lent (List ℕ) → Type 0 where
   writes : {s next : Lent (List ℕ)} {c : WriteCall} (number : ℕ) (out : List ℕ)
-      → Writes (step (s .buffer) c) (s .state) (s .buffer) number out (next .state) (next .buffer)
+      → WriterCall (step (s .buffer) c) (s .state) (s .buffer) number out (next .state) (next .buffer)
       → WriterStep s c (answered number out tt) next
 
 -- ---- lists of them
@@ -77,14 +77,14 @@ pub record ThroughWords : Type 0 where
   -- of every file of bytes, as a lent one is; the last walker is the one that the last words spell
   pub reads-and-seeks : (file : List ℕ) (cs : List Chunk) → Bytes file → Finished file cs → (table : List ℕ) → OwnIndex file table
       → (calls : List Call) (said : List CallAnswer) (last : List ℕ)
-      → Ran (WalkerStep file table) (walkerWords demuxer.fresh) calls said last
+      → CallsRan (WalkerStep file table) (walkerWords demuxer.fresh) calls said last
       → (w : Walker) × ((walkerOf last ≡ accepted w) × Agreed file cs calls w said)
   -- "The file is the first writer[7] bytes of the buffer." Of settings outside their fields' ranges no call is accepted.
   pub writing : (s : Settings) (buf : List ℕ) (calls : List WriteCall) (said : List (Answer Unit)) (last : Lent (List ℕ))
-      → Ran WriterStep (startsWith s buf) calls said last
+      → CallsRan WriterStep (startsWith s buf) calls said last
       → WritesAgreed s (take (word (last .state) 7) (last .buffer)) (acceptedBy calls said)
   -- and every list of calls runs, from any words
   pub walkers-run : (file table ws : List ℕ) (calls : List Call)
-      → (said : List CallAnswer) × (last : List ℕ) × Ran (WalkerStep file table) ws calls said last
+      → (said : List CallAnswer) × (last : List ℕ) × CallsRan (WalkerStep file table) ws calls said last
   pub writers-run : (s : Lent (List ℕ)) (calls : List WriteCall)
-      → (said : List (Answer Unit)) × (last : Lent (List ℕ)) × Ran WriterStep s calls said last
+      → (said : List (Answer Unit)) × (last : Lent (List ℕ)) × CallsRan WriterStep s calls said last

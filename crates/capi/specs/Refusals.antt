@@ -7,19 +7,19 @@ use lib.ListN.{length}
 use Rattle.error.specs.Answer.{refused, andThen}
 use Rattle.error.specs.declared.Refusal.{Refusal}
 use Rattle.chunk_index.specs.Index.{buildOf}
-use Rattle.recording.specs.Written.{WriteCall}
+use Rattle.recording.specs.WriteLists.{WriteCall}
 use Rattle.words.specs.Out.{checked}
 use Rattle.words.specs.State.{walkerOf, writerOf}
-use Rattle.capi.specs.Calls.{indexAnswer, walkerAfter, nextAnswer, nextWalker, seekAnswer, seekWalker, writerAfter, bufferAfter}
+use Rattle.capi.specs.Calls.{indexAnswer, walkerAfterCall, nextAnswer, nextWalker, seekAnswer, seekWalker, writerAfterCall, bufferAfterCall}
 use Rattle.capi.specs.Lists.{step}
 
 -- every word of the state and every byte of the table or buffer is as it was
 pub record RefusalsKeep : Type 0 where
   pub index : (file table : List ℕ) (r : Refusal) → indexAnswer file table ≡ refused r → buildOf file table .table ≡ table
   pub next : (file ws : List ℕ) (r : Refusal) → length ws ≡ 7 → andThen (walkerOf ws) (nextAnswer file) ≡ refused r
-      → walkerAfter (nextWalker file) ws ≡ ws
+      → walkerAfterCall (nextWalker file) ws ≡ ws
   pub seek : (table ws : List ℕ) (stream : ℕ) (request : ℤ) (r : Refusal) → length ws ≡ 7
-      → andThen (walkerOf ws) (seekAnswer table stream request) ≡ refused r → walkerAfter (seekWalker table stream request) ws ≡ ws
+      → andThen (walkerOf ws) (seekAnswer table stream request) ≡ refused r → walkerAfterCall (seekWalker table stream request) ws ≡ ws
   pub write : (buf ws : List ℕ) (c : WriteCall) (r : Refusal) → length ws ≡ 9
       → andThen (writerOf ws) (λ w. checked (step buf c w .answer)) ≡ refused r
-      → (writerAfter (step buf c) ws ≡ ws) × (bufferAfter (step buf c) ws buf ≡ buf)
+      → (writerAfterCall (step buf c) ws ≡ ws) × (bufferAfterCall (step buf c) ws buf ≡ buf)

@@ -1,16 +1,16 @@
 // The C interface. include/amv.h declares it, with the words of each `out`. A call returns the number of its refusal, or 0; it writes every
 // word of `out`, and where it refuses it changes nothing else.
 use chunk_index::index::IndexResult;
-use chunk_index::index::SummaryResult;
 use chunk_index::index::build_chunk_index;
-use chunk_index::index::summary;
+use chunk_index::summary::SummaryResult;
+use chunk_index::summary::summary;
 use demuxer::walker::NextPacket;
 use duration::AmvDuration;
 use error::AmvResult;
+use finished::CheckResult;
+use finished::check;
 use prelude::prelude::AmvPrelude;
 use prelude::prelude::AmvPreludeResult;
-use recording::check::CheckResult;
-use recording::check::check;
 use seek::SeekResult;
 use seek::seek_to_via_index;
 use words::out::packet_out;
@@ -32,8 +32,9 @@ ghost use Rattle.duration.specs.Duration.{packedOf, runLength};
 ghost use Rattle.prelude.specs.Prelude.{saidPrelude, parseOf, strictOf};
 ghost use Rattle.chunk_index.specs.Index.{buildOf};
 ghost use Rattle.muxer.specs.Writer.{headerCall, packetCall, trailerCall};
-ghost use Rattle.words.specs.Out.{Says, checked};
-ghost use Rattle.capi.specs.Calls.{summaryAnswer, checkAnswer, indexAnswer, parseAnswer, Walks, nextAnswer, nextWalker, seekAnswer, seekWalker, Writes};
+ghost use Rattle.words.specs.Out.{OutSays, checked};
+ghost use Rattle.capi.specs.Calls.{summaryAnswer, checkAnswer, indexAnswer, parseAnswer};
+ghost use Rattle.capi.specs.Calls.{WalkerCall, nextAnswer, nextWalker, seekAnswer, seekWalker, WriterCall};
 
 // The number of a call whose state's words are not all in their fields' ranges.
 const ILLEGAL_STATE: u32 = 1;
@@ -49,7 +50,7 @@ pub extern "C" fn amv_from_frame_count(frames: u64, fps: u32) -> u32
 // Whether tags alternate, a picture first and as many of each, for a caller that has the tags and no file. Refuses with 62 to 65.
 #[no_mangle]
 pub extern "C" fn amv_validate_movi_interleave(tags: &[u32], out: &mut [u64; 1]) -> u32
-    ensures { λ r. ⌜ Says 1 (checked (interleave (now (tags .entry)))) r (now (out .exit)) ⌝ }
+    ensures { λ r. ⌜ OutSays 1 (checked (interleave (now (tags .entry)))) r (now (out .exit)) ⌝ }
 {
     result_out(chunk::interleave::validate_movi_interleave(tags), out)
 }
@@ -57,7 +58,7 @@ pub extern "C" fn amv_validate_movi_interleave(tags: &[u32], out: &mut [u64; 1])
 // The frames and blocks of a file, without a table. Refuses with 10 and 31.
 #[no_mangle]
 pub extern "C" fn amv_summary(file: &[u8], out: &mut [u64; 3]) -> u32
-    ensures { λ r. ⌜ Says 3 (summaryAnswer (now (file .entry))) r (now (out .exit)) ⌝ }
+    ensures { λ r. ⌜ OutSays 3 (summaryAnswer (now (file .entry))) r (now (out .exit)) ⌝ }
 {
     match summary(file) {
         SummaryResult::Ok(counts) => {
@@ -74,7 +75,7 @@ pub extern "C" fn amv_summary(file: &[u8], out: &mut [u64; 3]) -> u32
 // Whether a file is a finished recording, and its totals. Refuses with 10 to 24, 60, 61 and 31.
 #[no_mangle]
 pub extern "C" fn amv_check(file: &[u8], out: &mut [u64; 6]) -> u32
-    ensures { λ r. ⌜ Says 6 (checkAnswer (now (file .entry))) r (now (out .exit)) ⌝ }
+    ensures { λ r. ⌜ OutSays 6 (checkAnswer (now (file .entry))) r (now (out .exit)) ⌝ }
 {
     match check(file) {
         CheckResult::Ok(totals) => {
@@ -98,7 +99,7 @@ pub extern "C" fn amv_check(file: &[u8], out: &mut [u64; 6]) -> u32
 // The index of a file into a table, for the jumps; gives the number of records. Refuses with 10, 31 and 40.
 #[no_mangle]
 pub extern "C" fn amv_build_chunk_index(file: &[u8], table: &mut [u8], out: &mut [u64; 2]) -> u32
-    ensures { λ r. ⌜ Says 2 (indexAnswer (now (file .entry)) (now (table .entry))) r (now (out .exit)) ⌝ }
+    ensures { λ r. ⌜ OutSays 2 (indexAnswer (now (file .entry)) (now (table .entry))) r (now (out .exit)) ⌝ }
     ensures { λ _. ⌜ now (table .exit) ≡ buildOf (now (file .entry)) (now (table .entry)) .table ⌝ }
 {
     match build_chunk_index(file, table) {
@@ -127,7 +128,7 @@ fn parsed(file: &[u8], strict: bool) -> AmvPreludeResult
 // The fields of the prelude. Refuses with 10 to 13 for a layout that is not that of the format and, if strict, with 14 to 24 for a field.
 #[no_mangle]
 pub extern "C" fn amv_parse(file: &[u8], strict: bool, out: &mut [u64; 16]) -> u32
-    ensures { λ r. ⌜ Says 16 (parseAnswer (now (file .entry)) strict) r (now (out .exit)) ⌝ }
+    ensures { λ r. ⌜ OutSays 16 (parseAnswer (now (file .entry)) strict) r (now (out .exit)) ⌝ }
 {
     match parsed(file, strict) {
         AmvPreludeResult::Ok(prelude) => {
@@ -144,7 +145,7 @@ pub extern "C" fn amv_parse(file: &[u8], strict: bool, out: &mut [u64; 16]) -> u
 // The packet at the walker, or End, and the walker past it. Refuses with 1, 10, 32 and 31.
 #[no_mangle]
 pub extern "C" fn amv_next_packet(file: &[u8], walker: &mut [u64; 7], out: &mut [u64; 7]) -> u32
-    ensures { λ r. ⌜ Walks 7 (nextAnswer (now (file .entry))) (nextWalker (now (file .entry)))
+    ensures { λ r. ⌜ WalkerCall 7 (nextAnswer (now (file .entry))) (nextWalker (now (file .entry)))
         (now (walker .entry)) r (now (out .exit)) (now (walker .exit)) ⌝ }
 {
     let WalkerState::Legal(state) = walker_of(*walker) else {
@@ -184,7 +185,7 @@ pub extern "C" fn amv_seek_to_via_index(
     request: i64,
     out: &mut [u64; 2],
 ) -> u32
-    ensures { λ r. ⌜ Walks 2 (seekAnswer (now (table .entry)) stream request) (seekWalker (now (table .entry)) stream request)
+    ensures { λ r. ⌜ WalkerCall 2 (seekAnswer (now (table .entry)) stream request) (seekWalker (now (table .entry)) stream request)
         (now (walker .entry)) r (now (out .exit)) (now (walker .exit)) ⌝ }
 {
     let WalkerState::Legal(state) = walker_of(*walker) else {
@@ -207,10 +208,10 @@ pub extern "C" fn amv_seek_to_via_index(
     }
 }
 
-// Writes the prelude, the first call of a writer. Refuses with 1, 50, 55 and 54.
+// WriterCall the prelude, the first call of a writer. Refuses with 1, 50, 55 and 54.
 #[no_mangle]
 pub extern "C" fn amv_write_header(writer: &mut [u64; 9], buf: &mut [u8], out: &mut [u64; 1]) -> u32
-    ensures { λ r. ⌜ Writes (λ w. headerCall w (now (buf .entry)))
+    ensures { λ r. ⌜ WriterCall (λ w. headerCall w (now (buf .entry)))
         (now (writer .entry)) (now (buf .entry)) r (now (out .exit)) (now (writer .exit)) (now (buf .exit)) ⌝ }
 {
     let WriterState::Legal(state) = writer_of(*writer) else {
@@ -224,7 +225,7 @@ pub extern "C" fn amv_write_header(writer: &mut [u64; 9], buf: &mut [u8], out: &
     result_out(result, out)
 }
 
-// Writes a packet after what is written. Refuses with 1, 51, 55, 56, 52, 53 and 54.
+// WriterCall a packet after what is written. Refuses with 1, 51, 55, 56, 52, 53 and 54.
 #[no_mangle]
 pub extern "C" fn amv_write_packet(
     writer: &mut [u64; 9],
@@ -233,7 +234,7 @@ pub extern "C" fn amv_write_packet(
     stream: u32,
     out: &mut [u64; 1],
 ) -> u32
-    ensures { λ r. ⌜ Writes (λ w. packetCall w (now (payload .entry)) stream (now (buf .entry)))
+    ensures { λ r. ⌜ WriterCall (λ w. packetCall w (now (payload .entry)) stream (now (buf .entry)))
         (now (writer .entry)) (now (buf .entry)) r (now (out .exit)) (now (writer .exit)) (now (buf .exit)) ⌝ }
 {
     let WriterState::Legal(state) = writer_of(*writer) else {
@@ -258,14 +259,14 @@ pub extern "C" fn amv_write_packet(
     }
 }
 
-// Writes the trailer, and the run length into the prelude: the last call of a writer. Refuses with 1, 51, 55, 56 and 54.
+// WriterCall the trailer, and the run length into the prelude: the last call of a writer. Refuses with 1, 51, 55, 56 and 54.
 #[no_mangle]
 pub extern "C" fn amv_write_trailer(
     writer: &mut [u64; 9],
     buf: &mut [u8],
     out: &mut [u64; 1],
 ) -> u32
-    ensures { λ r. ⌜ Writes (λ w. trailerCall w (now (buf .entry)))
+    ensures { λ r. ⌜ WriterCall (λ w. trailerCall w (now (buf .entry)))
         (now (writer .entry)) (now (buf .entry)) r (now (out .exit)) (now (writer .exit)) (now (buf .exit)) ⌝ }
 {
     let WriterState::Legal(state) = writer_of(*writer) else {

@@ -11,9 +11,8 @@ use Rattle.parse.specs.Preamble.{preambleOf}
 use Rattle.prelude.specs.Built.{preludeBytes}
 use Rattle.demuxer.specs.Head.{headAt, countOf}
 use Rattle.demuxer.specs.Position.{start}
-use Rattle.chunk_index.specs.Chunks.{chunkBytes, chunksBytes}
-use Rattle.chunk_index.specs.Index.{fileWalk}
-use Rattle.chunk_index.specs.Walk.{walkFor, walk}
+use Rattle.walk.specs.Chunks.{chunkBytes, chunksBytes}
+use Rattle.walk.specs.Walk.{stepAt, fileWalk, walkFor, walk}
 use Rattle.listing.specs.Listing.{chunkLines, listingOf}
 use Rattle.listing.proofs.Laws.{checked-listed}
 use Rattle.cases.specs.Example.{E}
@@ -23,11 +22,11 @@ use Rattle.cases.proofs.Cases.{cases}
 use Rattle.cases.proofs.Numbers.{numbers}
 
 E-chunks : chunkLines start (fileWalk E) ≡ chunkLine true 316 0 0 0 ++ (chunkLine false 327 1 0 0 ++ [])
-unfolding le leBytes preludeBytes chunkBytes chunksBytes E preambleOf headAt countOf walkFor walk chunkLines
+unfolding le leBytes preludeBytes chunkBytes chunksBytes E preambleOf headAt countOf stepAt walkFor walk chunkLines
 E-chunks = refl
 
 T-chunks : chunkLines start (fileWalk T) ≡ chunkLine true 316 0 0 0 ++ (chunkLine true 325 1 0 0 ++ (chunkLine false 335 2 0 0 ++ []))
-unfolding le leBytes preludeBytes chunkBytes chunksBytes P T preambleOf headAt countOf walkFor walk chunkLines
+unfolding le leBytes preludeBytes chunkBytes chunksBytes P T preambleOf headAt countOf stepAt walkFor walk chunkLines
 T-chunks = refl
 
 T-short : length T ≤ 65536

@@ -20,14 +20,15 @@ use Rattle.demuxer.specs.Position.{inRange}
 use Rattle.demuxer.specs.Read.{Reading, End, refuse, readFrame, readSound, readChunk, readOf}
 use Rattle.demuxer.specs.declared.walker.Walker.{Walker}
 use Rattle.demuxer.proofs.Steps.{read-ended}
-use Rattle.chunk_index.specs.Walk.{walkFor, walk}
-use Rattle.chunk_index.specs.Chunks.{chunkBytes, chunksBytes}
+use Rattle.walk.specs.Walk.{stepAt, walkFor, walk}
+use Rattle.walk.specs.Chunks.{chunkBytes, chunksBytes}
 use Rattle.chunk_index.specs.Entry.{entryBytes, tableBytes, entryAt, entriesFrom}
-use Rattle.chunk_index.specs.Index.{records, tagsKnown, indexOf, buildOf, countsFrom, summaryOf}
+use Rattle.chunk_index.specs.Index.{records, tagsKnown, indexOf, buildOf}
+use Rattle.chunk_index.specs.Summary.{countsFrom, summaryOf}
 use Rattle.seek.specs.Seek.{goodEntries, seekQuestions, find, pastLast, seekOf}
 use Rattle.muxer.specs.declared.Writer.{Writer}
 use Rattle.muxer.specs.Writer.{outcome, headerQuestions, headerCall, packetQuestions, packetCall, trailerQuestions, trailerCall}
-use Rattle.recording.specs.Check.{tagsOf, checkFrom, checkOf}
+use Rattle.finished.specs.Check.{tagsOf, checkFrom, checkOf}
 use Rattle.cases.specs.Example.{E}
 use Rattle.cases.specs.Numbers.{over, writerAt, P, T, Numbers}
 
@@ -61,7 +62,7 @@ trailer-asked w buf = asked (trailerQuestions w (length buf)) w _ buf _
 pub numbers : Numbers
 unfolding le leBytes put interleaveFrom headerFields headerOf headerSentinels cbSizeOf waveFormatFields waveFormatSentinels preambleOf chunkHeaderOf
     preludeBytes layout askWord askBody askItems preludeFields parseOf zeros zeroRanges validatedOf strictOf headAt countOf inRange readFrame readSound
-    readChunk readOf walkFor walk chunkBytes chunksBytes entryBytes tableBytes entryAt entriesFrom records tagsKnown indexOf buildOf countsFrom summaryOf
+    readChunk readOf stepAt walkFor walk chunkBytes chunksBytes entryBytes tableBytes entryAt entriesFrom records tagsKnown indexOf buildOf countsFrom summaryOf
     goodEntries seekQuestions find pastLast seekOf tagsOf checkFrom checkOf headerQuestions headerCall packetQuestions packetCall trailerQuestions trailerCall E
     P T
 numbers =

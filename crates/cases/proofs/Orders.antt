@@ -1,7 +1,7 @@
 -- The order of the questions, computed: each table by one test. Assumes nothing.
 use mathlib.Core.Path.{refl}
 use Rattle.fields.specs.Le.{le, leBytes, put}
-use Rattle.duration.specs.Duration.{packedOf, durationOf, runLength, ofSeconds}
+use Rattle.duration.specs.Duration.{packedOf, unpackedOf, runLength, ofSeconds}
 use Rattle.chunk.specs.Chunk.{chunkHeaderOf}
 use Rattle.chunk.specs.Interleave.{interleaveFrom}
 use Rattle.parse.specs.Header.{headerFields, headerSentinels}
@@ -13,14 +13,14 @@ use Rattle.prelude.specs.Prelude.{preludeFields, parseOf, zeros, zeroRanges, va
 use Rattle.demuxer.specs.Position.{inRange}
 use Rattle.demuxer.specs.Read.{readOf}
 use Rattle.muxer.specs.Writer.{headerQuestions, headerCall, packetQuestions, packetCall, trailerQuestions, trailerCall}
-use Rattle.recording.specs.Check.{checkOf}
+use Rattle.finished.specs.Check.{checkOf}
 use Rattle.cases.specs.Numbers.{P}
 use Rattle.cases.specs.Orders.{spoiling, eachFirst, eachCut, Orders}
 
 pub orders : Orders
 unfolding le leBytes put interleaveFrom headerFields headerSentinels cbSizeOf waveFormatFields waveFormatSentinels preambleOf chunkHeaderOf preludeBytes layout
     askWord askBody askItems preludeFields parseOf zeros zeroRanges validatedOf strictOf inRange readOf checkOf headerQuestions headerCall packetQuestions
-    packetCall trailerQuestions trailerCall packedOf durationOf runLength ofSeconds spoiling eachFirst eachCut P
+    packetCall trailerQuestions trailerCall packedOf unpackedOf runLength ofSeconds spoiling eachFirst eachCut P
 orders =
     record {
       parsed = refl;

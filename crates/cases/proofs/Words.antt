@@ -11,12 +11,13 @@ use Rattle.prelude.specs.Prelude.{preludeFields, parseOf, zeros, zeroRanges, va
 use Rattle.demuxer.specs.Head.{headAt, countOf}
 use Rattle.demuxer.specs.Position.{inRange}
 use Rattle.demuxer.specs.Read.{readFrame, readSound, readChunk, readOf}
-use Rattle.chunk_index.specs.Walk.{walkFor, walk}
-use Rattle.chunk_index.specs.Chunks.{chunkBytes, chunksBytes}
+use Rattle.walk.specs.Walk.{stepAt, walkFor, walk}
+use Rattle.walk.specs.Chunks.{chunkBytes, chunksBytes}
 use Rattle.chunk_index.specs.Entry.{entryBytes, tableBytes, entryAt, entriesFrom}
-use Rattle.chunk_index.specs.Index.{records, tagsKnown, indexOf, buildOf, countsFrom, summaryOf}
+use Rattle.chunk_index.specs.Index.{records, tagsKnown, indexOf, buildOf}
+use Rattle.chunk_index.specs.Summary.{countsFrom, summaryOf}
 use Rattle.seek.specs.Seek.{goodEntries, seekQuestions, find, pastLast, seekOf}
-use Rattle.recording.specs.Check.{tagsOf, checkFrom, checkOf}
+use Rattle.finished.specs.Check.{tagsOf, checkFrom, checkOf}
 use Rattle.words.specs.State.{walkerLegal, settingsLegal, writerLegal}
 use Rattle.cases.specs.Example.{E}
 use Rattle.cases.specs.Numbers.{P, T}
@@ -24,7 +25,7 @@ use Rattle.cases.specs.Words.{Words}
 
 pub words : Words
 unfolding le leBytes put interleaveFrom headerFields headerSentinels cbSizeOf waveFormatFields waveFormatSentinels preambleOf preludeBytes layout askWord
-    askBody askItems preludeFields parseOf zeros zeroRanges validatedOf strictOf headAt countOf inRange readFrame readSound readChunk readOf walkFor walk
+    askBody askItems preludeFields parseOf zeros zeroRanges validatedOf strictOf headAt countOf inRange readFrame readSound readChunk readOf stepAt walkFor walk
     chunkBytes chunksBytes entryBytes tableBytes entryAt entriesFrom records tagsKnown indexOf buildOf countsFrom summaryOf goodEntries seekQuestions find
     pastLast seekOf tagsOf checkFrom checkOf walkerLegal settingsLegal writerLegal E P T
 words =

@@ -21,7 +21,7 @@ use Rattle.chunk_index.specs.Entry.{tableBytes}
 use Rattle.chunk_index.specs.Index.{indexOf}
 use Rattle.chunk_index.specs.declared.entry.ChunkIndexEntry.{ChunkIndexEntry}
 use Rattle.seek.specs.Seek.{seekOf}
-use Rattle.recording.specs.Check.{checkOf}
+use Rattle.finished.specs.Check.{checkOf}
 use Rattle.cases.specs.Example.{E}
 
 -- a header that differs from a device's only in these two

@@ -18,14 +18,15 @@ use Rattle.demuxer.specs.Read.{ReadAnswer, End, fresh, readOf}
 use Rattle.demuxer.specs.Read as read
 use Rattle.demuxer.specs.declared.walker.Trailer.the-variants.{NotMet}
 use Rattle.demuxer.specs.declared.walker.Walker.{Walker}
-use Rattle.chunk_index.specs.Chunks.{Chunk, chunkOf, chunksBytes}
+use Rattle.walk.specs.Chunks.{Chunk, chunkOf, chunksBytes}
 use Rattle.chunk_index.specs.Entry.{entryBytes}
-use Rattle.chunk_index.specs.Index.{indexOf, buildOf, summaryOf}
-use Rattle.chunk_index.specs.Walk.{frame, sound}
+use Rattle.chunk_index.specs.Index.{indexOf, buildOf}
+use Rattle.chunk_index.specs.Summary.{summaryOf}
+use Rattle.walk.specs.declared.Kind.the-variants.{Frame, Sound}
 use Rattle.seek.specs.Seek.{seekOf}
 use Rattle.muxer.specs.Writer.{headerCall, packetCall, trailerCall}
 use Rattle.muxer.specs.declared.Writer.{Writer}
-use Rattle.recording.specs.Check.{checkOf}
+use Rattle.finished.specs.Check.{checkOf}
 use Rattle.cases.specs.Cases.{position}
 use Rattle.cases.specs.Example.{E}
 
@@ -78,7 +79,7 @@ zeroed n = replicate n 0
 
 -- two frames and a block of five samples, out of step: every total is another number
 abbrev pub chunksT : List Chunk
-chunksT = chunkOf frame (1 ∷ []) ∷ chunkOf frame (2 ∷ 3 ∷ []) ∷ chunkOf sound (0 ∷ 0 ∷ 0 ∷ 0 ∷ 5 ∷ 0 ∷ 0 ∷ 0 ∷ []) ∷ []
+chunksT = chunkOf Frame (1 ∷ []) ∷ chunkOf Frame (2 ∷ 3 ∷ []) ∷ chunkOf Sound (0 ∷ 0 ∷ 0 ∷ 0 ∷ 5 ∷ 0 ∷ 0 ∷ 0 ∷ []) ∷ []
 
 unfoldable pub T : List ℕ
 T = then (chunksBytes chunksT ++ trailerBytes)

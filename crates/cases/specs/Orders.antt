@@ -7,7 +7,7 @@ use lib.Dec.{eqb}
 use lib.ListN.{length, take}
 use Rattle.error.specs.Answer.{Answer, accepted, numbered, numberOf, placeOf}
 use Rattle.fields.specs.Le.{put}
-use Rattle.duration.specs.Duration.{packedOf, durationOf, runLength}
+use Rattle.duration.specs.Duration.{packedOf, unpackedOf, runLength}
 use Rattle.chunk.specs.Chunk.{videoTag, chunkHeaderOf}
 use Rattle.chunk.specs.Interleave.{interleave}
 use Rattle.parse.specs.Preamble.{preambleOf}
@@ -15,7 +15,7 @@ use Rattle.prelude.specs.Prelude.{parseOf, strictOf}
 use Rattle.prelude.specs.declared.prelude.AmvPrelude.{AmvPrelude}
 use Rattle.demuxer.specs.Read as read
 use Rattle.demuxer.specs.declared.walker.Trailer.the-variants.{NotMet}
-use Rattle.recording.specs.Check.{checkOf}
+use Rattle.finished.specs.Check.{checkOf}
 use Rattle.cases.specs.Cases.{position}
 use Rattle.cases.specs.Numbers.{no, P, then, zeroed, reads, writerAt, heads, packs, ends}
 
@@ -86,6 +86,6 @@ pub record Orders : Type 0 where
   pub preamble : preambleOf (1 ∷ 0 ∷ 0 ∷ 0 ∷ 2 ∷ 0 ∷ 0 ∷ 0 ∷ []) ≡ accepted (record { state = 1; «decoded_sample_count» = 2 })
   -- "bytes seconds, minutes, hours, 0": an hour, two minutes and three seconds
   pub packed : packedOf (record { seconds = 3; minutes = 2; hours = 1 }) ≡ 3 + 0x0200 + 0x010000
-  pub unpacked : durationOf (3 + 0x0200 + 0x010000) ≡ record { seconds = 3; minutes = 2; hours = 1 }
+  pub unpacked : unpackedOf (3 + 0x0200 + 0x010000) ≡ record { seconds = 3; minutes = 2; hours = 1 }
   pub run-length : runLength 44676 12 ≡ record { seconds = 3; minutes = 2; hours = 1 }
   pub no-fps : runLength 44676 0 ≡ record { seconds = 0; minutes = 0; hours = 0 }

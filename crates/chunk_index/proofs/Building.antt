@@ -15,10 +15,7 @@ use Rattle.demuxer.specs.Position.{start}
 use Rattle.walk.specs.Walk.{fileWalk}
 use Rattle.chunk_index.specs.Entry.{entryLen, tableBytes}
 use Rattle.chunk_index.specs.Index.{records, tagsKnown, indexOf, buildOf}
-
--- what the first pass answers
-abbrev pub total : List ℕ → Answer ℕ
-total file = andThen (tagsKnown preludeLen (fileWalk file)) (λ _. accepted (length (records start (fileWalk file))))
+use Rattle.chunk_index.specs.Steps.{countRecords}
 
 -- a refusal of the count is one of the index
 refused-on : {A B : Type 0} (x : Answer Unit) (a : A) (b : B) {r : Refusal} → andThen x (λ _. accepted a) ≡ refused r
@@ -27,11 +24,11 @@ refused-on (accepted u) a b e = never e
 refused-on (refused s) a b e = ap refused cc
 
 module _ (file table : List ℕ) (l : withinLimit file ≡ true) where
-  pub build-refused : {r : Refusal} → total file ≡ refused r → buildOf file table ≡ record { answer = refused r; table = table }
+  pub build-refused : {r : Refusal} → countRecords file ≡ refused r → buildOf file table ≡ record { answer = refused r; table = table }
   unfolding buildOf indexOf
   build-refused e = rw (l, refused-on (tagsKnown preludeLen (fileWalk file)) _ (records start (fileWalk file)) e)
 
-  module _ {n : ℕ} (e : total file ≡ accepted n) where
+  module _ {n : ℕ} (e : countRecords file ≡ accepted n) where
     pub counted-all : n ≡ length (records start (fileWalk file))
     counted-all =
         sym (accepted-same (then-passed (tagsKnown preludeLen (fileWalk file)) (λ _. accepted (length (records start (fileWalk file)))) e .1))

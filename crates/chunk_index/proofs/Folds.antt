@@ -1,8 +1,8 @@
 -- Records and known tags along the walk: what a step of it means for them. Assumes nothing.
 use mathlib.Core.Path.{_≡_, refl, sym, ap, _∙_}
-use mathlib.Core.Bool.{Bool, true, false}
+use mathlib.Core.Bool.{true, false}
 use mathlib.Core.List.{List, [], _∷_}
-use Prim.Native.Nat.{ℕ, _+_, _≤_, min}
+use Prim.Native.Nat.{ℕ, _+_, min}
 use native.Mathlib.Decide.{decLe}
 use native.Mathlib.Nat.{lt-of-not-le}
 use native.Mathlib.Omega.{arith}
@@ -22,7 +22,6 @@ use Rattle.walk.proofs.Walks.{Goes, past-is, past-cursor}
 use Rattle.chunk_index.specs.Entry.{entry}
 use Rattle.chunk_index.specs.Index.{recorded, records, tagsKnown}
 use Rattle.chunk_index.specs.Steps.{recordedBy, recordedAt}
-use Rattle.chunk_index.specs.declared.entry.ChunkIndexEntry.{ChunkIndexEntry}
 
 -- at least so many bytes of a payload are there where they and what is missing do not make more than its length
 there-by : (least there missing size : ℕ) → there + missing ≡ size → leb least there ≡ leb (least + missing) size

@@ -23,14 +23,11 @@ use Rattle.demuxer.specs.Head.{headAt, isTrailer, chunkHead}
 use Rattle.prelude.specs.Layout.{preludeLen}
 use Rattle.demuxer.specs.Position.{start}
 use Rattle.demuxer.specs.Read.{payloadAt}
-use Rattle.demuxer.specs.declared.head.Head.the-variants as head
 use Rattle.demuxer.specs.declared.position.Position.{Position}
-use Rattle.demuxer.proofs.Heads.{head-out}
 use Rattle.demuxer.proofs.Suffixes.{chunk-suffix}
 use Rattle.chunk_index.specs.Entry.{entryLen, entry, tableBytes}
 use Rattle.chunk_index.specs.Index.{recorded, records, tagsKnown, indexOf, builtFrom, buildOf}
 use Rattle.chunk_index.specs.Sentences.{tagged, EndsIn, IndexSentences}
-use Rattle.chunk_index.specs.Steps.{recordedAt}
 use Rattle.chunk_index.specs.Summary.{noneCounted, counted, countsFrom, summaryOf}
 use Rattle.chunk_index.specs.declared.entry.ChunkIndexEntry.{ChunkIndexEntry}
 use Rattle.chunk_index.specs.declared.summary.ChunkCounts.{ChunkCounts}

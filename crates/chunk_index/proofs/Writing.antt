@@ -1,7 +1,7 @@
 -- The second pass: what has been written, and what is left to write. Assumes nothing.
 use mathlib.Core.Path.{_≡_, sym, ap, _∙_}
 use mathlib.Core.Bool.{true}
-use mathlib.Core.List.{List, [], _∷_}
+use mathlib.Core.List.{List, []}
 use Prim.Native.Nat.{ℕ, _+_, _*_, _≤_}
 use native.Mathlib.Omega.{arith}
 use lib.ListN.{length}
@@ -14,9 +14,9 @@ use Rattle.walk.specs.Steps.{Walked, pastAt}
 use Rattle.walk.specs.Walk.{walk, fileWalk}
 use Rattle.walk.specs.declared.ChunkAt.{ChunkAt}
 use Rattle.walk.proofs.Walks.{Goes}
-use Rattle.chunk_index.specs.Entry.{Small, entryLen, entry, entryBytes, tableBytes}
+use Rattle.chunk_index.specs.Entry.{entryLen, entry, entryBytes, tableBytes}
+use Rattle.chunk_index.specs.Steps.{Small, recordedAt}
 use Rattle.chunk_index.specs.Index.{records}
-use Rattle.chunk_index.specs.Steps.{recordedAt}
 use Rattle.chunk_index.specs.declared.entry.ChunkIndexEntry.{ChunkIndexEntry}
 use Rattle.chunk_index.proofs.Entries.{length-entryBytes}
 use Rattle.chunk_index.proofs.Folds.{records-on}

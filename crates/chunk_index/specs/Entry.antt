@@ -1,8 +1,7 @@
 -- A record of the index, and its 24 bytes. Assumes nothing.
-use Prim.Native.Nat.{ℕ, zero, suc, _+_, _/_, _<_}
+use Prim.Native.Nat.{ℕ, zero, suc, _+_, _/_}
 use mathlib.Core.List.{List, [], _∷_, _++_}
 use lib.ListN.{length}
-use Rattle.fields.specs.Capped.{u32Max}
 use Rattle.fields.specs.Le.{le, leBytes}
 use Rattle.demuxer.specs.declared.position.Position.{Position}
 use Rattle.walk.specs.Walk.{kindTag}
@@ -25,12 +24,6 @@ entryBytes e =
     ++ (leBytes 4 (e .position .frames .0)
     ++ (leBytes 4 (e .position .blocks .0)
     ++ leBytes 8 (e .position .samples .0))))
-
--- what the three 32-bit fields of a record can hold
-pub record Small (p : Position) : Type 0 where
-  pub cursor-small : p .cursor ≤ u32Max
-  pub frames-small : p .frames .0 ≤ u32Max
-  pub blocks-small : p .blocks .0 ≤ u32Max
 
 unfoldable pub tableBytes : List ChunkIndexEntry → List ℕ
 tableBytes [] = []

@@ -1,10 +1,19 @@
--- Steps on the way: what private functions promise each other. Nothing here need be believed. Assumes nothing.
-use Prim.Native.Nat.{ℕ, _+_, min}
+-- Steps on the way: what functions below the calls promise each other. Nothing here need be believed. Assumes nothing.
+use Prim.Native.Nat.{ℕ, _+_, _≤_, min}
 use mathlib.Core.Bool.{Bool, true}
+use mathlib.Core.List.{List}
 use lib.Dec.{leb}
+use lib.ListN.{length}
+use Rattle.error.specs.Answer.{Answer, accepted, andThen}
+use Rattle.fields.specs.Capped.{u32Max}
+use Rattle.prelude.specs.Layout.{preludeLen}
+use Rattle.demuxer.specs.Position.{start}
+use Rattle.demuxer.specs.declared.position.Position.{Position}
+use Rattle.walk.specs.Walk.{fileWalk}
 use Rattle.walk.specs.declared.ChunkAt.{ChunkAt}
 use Rattle.walk.specs.declared.Kind.{Kind}
 use Rattle.walk.specs.declared.Kind.the-variants.{Frame, Sound}
+use Rattle.chunk_index.specs.Index.{records, tagsKnown}
 
 -- whether a chunk gets a record, by its length and what is missing of it
 abbrev pub recordedBy : Kind → ℕ → ℕ → Bool
@@ -13,3 +22,13 @@ recordedBy Sound size missing = leb (min 8 size + missing) size
 
 abbrev pub recordedAt : ChunkAt → Bool
 recordedAt c = recordedBy (c .kind) (c .size) (c .missing)
+
+-- what the three 32-bit fields of a record can hold
+pub record Small (p : Position) : Type 0 where
+  pub cursor-small : p .cursor ≤ u32Max
+  pub frames-small : p .frames .0 ≤ u32Max
+  pub blocks-small : p .blocks .0 ≤ u32Max
+
+-- what the first pass answers: how many records the walk makes, or that a tag is unknown
+abbrev pub countRecords : List ℕ → Answer ℕ
+countRecords file = andThen (tagsKnown preludeLen (fileWalk file)) (λ _. accepted (length (records start (fileWalk file))))

@@ -7,7 +7,8 @@ ghost use mathlib.Core.Path.{_≡_};
 ghost use Prim.Native.Nat.{_+_, _≤_};
 ghost use lib.ListN.{length};
 ghost use Rattle.fields.specs.Le.{put};
-ghost use Rattle.chunk_index.specs.Entry.{entryLen, entryBytes, entryAt, Small};
+ghost use Rattle.chunk_index.specs.Entry.{entryLen, entryBytes, entryAt};
+ghost use Rattle.chunk_index.specs.Steps.{Small};
 
 // A chunk's tag, and where it stands.
 pub struct ChunkIndexEntry {
@@ -19,6 +20,7 @@ impl ChunkIndexEntry {
     // The bytes of a record.
     pub const LEN: usize = 24;
 
+    // The record at an offset of a table.
     pub fn read(table: &[u8], at: usize) -> ChunkIndexEntry
         requires { ⌜ at + entryLen ≤ length (now table) ⌝ }
         ensures { λ r. ⌜ r ≡ entryAt (now (table .entry)) at ⌝ }
@@ -37,6 +39,7 @@ impl ChunkIndexEntry {
         ChunkIndexEntry { tag, position }
     }
 
+    // Writes the record at an offset of a table.
     pub fn write(self, table: &mut [u8], at: usize)
         requires { ⌜ at + entryLen ≤ length (now table) ⌝ }
         requires { ⌜ Small (self .position) ⌝ }

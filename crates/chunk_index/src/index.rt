@@ -15,14 +15,12 @@ ghost use Prim.Native.Nat.{_*_, _≤_};
 ghost use lib.ListN.{length};
 ghost use Rattle.fields.specs.File.{fileLimit};
 ghost use Rattle.fields.specs.Le.{put};
-ghost use Rattle.error.specs.Answer.{accepted, andThen};
 ghost use Rattle.error.specs.Refusal.{said};
-ghost use Rattle.prelude.specs.Layout.{preludeLen};
 ghost use Rattle.demuxer.specs.Position.{start};
 ghost use Rattle.walk.specs.Walk.{fileWalk};
 ghost use Rattle.chunk_index.specs.Entry.{entryLen, tableBytes};
-ghost use Rattle.chunk_index.specs.Index.{stopKnown, records, tagsKnown, buildOf, saidIndex};
-ghost use Rattle.chunk_index.specs.Steps.{recordedAt};
+ghost use Rattle.chunk_index.specs.Index.{stopKnown, records, buildOf, saidIndex};
+ghost use Rattle.chunk_index.specs.Steps.{recordedAt, countRecords};
 
 // The number of records, or a refusal.
 pub enum IndexResult {
@@ -56,7 +54,7 @@ pub fn ask_known(stop: Stop, at: u64) -> AmvResult
 // Counts the records of the walk. It reads headers only.
 fn count_records(file: &[u8]) -> IndexResult
     requires { ⌜ length (now file) ≤ fileLimit ⌝ }
-    ensures { λ r. ⌜ saidIndex r ≡ andThen (tagsKnown preludeLen (fileWalk (now (file .entry)))) (λ _. accepted (length (records start (fileWalk (now (file .entry)))))) ⌝ }
+    ensures { λ r. ⌜ saidIndex r ≡ countRecords (now (file .entry)) ⌝ }
 {
     let mut at: usize = Walker::START as usize;
     let mut count: usize = 0;
@@ -110,7 +108,8 @@ fn write_records(file: &[u8], table: &mut [u8])
 // Writes the records of a file's chunks to a table and answers their count; bytes after them stay. Refuses a file over the limit (10), an
 // unknown tag (31, at the chunk) and a table without room (40). Two passes, so that a table without room for all records is not touched.
 pub fn build_chunk_index(file: &[u8], table: &mut [u8]) -> IndexResult
-    ensures { λ r. ⌜ (saidIndex r ≡ buildOf (now (file .entry)) (now (table .entry)) .answer) × (now (table .exit) ≡ buildOf (now (file .entry)) (now (table .entry)) .table) ⌝ }
+    ensures { λ r. ⌜ saidIndex r ≡ buildOf (now (file .entry)) (now (table .entry)) .answer ⌝ }
+    ensures { λ _. ⌜ now (table .exit) ≡ buildOf (now (file .entry)) (now (table .entry)) .table ⌝ }
 {
     if !fields::file::within_limit(file) {
         return IndexResult::Err(AmvError::FileTooLong);

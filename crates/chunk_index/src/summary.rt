@@ -41,6 +41,7 @@ impl ChunkCounts {
     }
 }
 
+// The counts, or a refusal.
 pub enum SummaryResult {
     Ok(ChunkCounts),
     Err(AmvError),

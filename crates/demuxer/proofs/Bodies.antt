@@ -16,7 +16,8 @@ use Rattle.fields.specs.Le.{le}
 use Rattle.fields.proofs.Impossible.{impossible}
 use Rattle.parse.specs.Preamble.{preambleOf}
 use Rattle.parse.specs.declared.preamble.AmvAudioPreamble.{AmvAudioPreamble}
-use Rattle.demuxer.specs.Head.{CountIs, bodyAt, preambleCount, countOf}
+use Rattle.demuxer.specs.Head.{CountIs, preambleCount, countOf}
+use Rattle.demuxer.specs.Steps.{bodyAt}
 use Rattle.demuxer.specs.Packet.{payloadOf}
 use Rattle.demuxer.specs.declared.head.Body.the-variants.{Whole, Short}
 use Rattle.demuxer.specs.declared.packet.Packet.{Packet}

@@ -17,18 +17,18 @@ Leaves w (packet s) x = x ≡ advanced w (x .position)
 Leaves w End x = Unit
 Leaves w (refused r) x = x ≡ w
 
-abbrev Left : Walker → Reading → Type 0
-Left w q = Leaves w (q .answer) (q .walker)
+abbrev WalkerLeft : Walker → Reading → Type 0
+WalkerLeft w q = Leaves w (q .answer) (q .walker)
 
-left : (file : List ℕ) (w : Walker) → Left w (readOf file w)
+left : (file : List ℕ) (w : Walker) → WalkerLeft w (readOf file w)
 unfolding Leaves
-left file w = read-cases file w (Left w) refl refl tt (λ h. tt) tt refl refl refl
+left file w = read-cases file w (WalkerLeft w) refl refl tt (λ h. tt) tt refl refl refl
 
 pub packet-moves : (file : List ℕ) (w : Walker) {r : Read} {p : Packet} → saidRead file r ≡ readOf file w → r .answer ≡ next.Packet p
     → r .walker ≡ advanced w (r .walker .position)
 unfolding Leaves
 packet-moves file w {r} e t =
-    subst (λ (a : NextPacket). Leaves w (saidNext file a) (r .walker)) t (subst (λ (q : Reading). Left w q) (sym e) (left file w))
+    subst (λ (a : NextPacket). Leaves w (saidNext file a) (r .walker)) t (subst (λ (q : Reading). WalkerLeft w q) (sym e) (left file w))
 
 pub refused-stays : (file : List ℕ) (w : Walker) {r : Refusal} → readOf file w .answer ≡ refused r → readOf file w .walker ≡ w
 unfolding Leaves

@@ -14,7 +14,7 @@ use Rattle.chunk.specs.declared.ChunkKind.the-variants.{Video, Audio, Other}
 use Rattle.fields.specs.File.{withinLimit}
 use Rattle.fields.specs.Le.{le}
 use Rattle.demuxer.specs.Head.{isTrailer, kindHead, headAt, countOf}
-use Rattle.demuxer.specs.Packet.{durationOf, ticks}
+use Rattle.demuxer.specs.Packet.{packetDuration, ticks}
 use Rattle.demuxer.specs.Position.{inRange, pastFrame, pastSound}
 use Rattle.demuxer.specs.Read.{Reading, packet, End, refuse, cutOff, atTrailer, advanced, payloadAt, readFrame, readSound, readHead, readChunk, readOf}
 use Rattle.demuxer.specs.declared.head.Head.the-variants as head
@@ -37,7 +37,7 @@ abbrev pub soundRead : List ℕ → Walker → ℕ → Reading
 soundRead file w size =
     let payload = payloadAt file (w .position .cursor) size in
     record {
-      answer = packet (record { stream = 1; payload = payload; stamp = w .position .samples .0; duration = ticks (durationOf (countOf payload)) });
+      answer = packet (record { stream = 1; payload = payload; stamp = w .position .samples .0; duration = ticks (packetDuration (countOf payload)) });
       walker = advanced w (pastSound (w .position) size (countOf payload));
     }
 

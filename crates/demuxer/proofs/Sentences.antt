@@ -24,7 +24,7 @@ use Rattle.fields.proofs.Impossible.{impossible}
 use Rattle.demuxer.specs.Head.{trailerTag, trailerSize, isTrailer, kindHead, headAt, countOf}
 use Rattle.demuxer.specs.Read.{Reading, ReadAnswer, packet, End, payloadAt, readFrame, readSound, readHead, readChunk, readOf}
 use Rattle.demuxer.specs.Read as read
-use Rattle.demuxer.specs.Packet.{durationOf, ticks}
+use Rattle.demuxer.specs.Packet.{packetDuration, ticks}
 use Rattle.demuxer.specs.Position.{InRange}
 use Rattle.demuxer.specs.Sentences.{Gives, moved, AtCursor, headed, asAnswer, ReadSentences}
 use Rattle.demuxer.specs.declared.head.Head.{Head}
@@ -113,7 +113,7 @@ frame-read file payload rest w a going s =
 pub sound-read : (file payload rest : List ℕ) (w : Walker) → AtCursor file w (headed audioTag (length payload) (payload ++ rest)) → w .end ≡ false
     → length payload ≤ payloadLimit
     → let p = w .position in
-    Gives file w (packet (record { stream = 1; payload = payload; stamp = p .samples .0; duration = ticks (durationOf (countOf payload)) }))
+    Gives file w (packet (record { stream = 1; payload = payload; stamp = p .samples .0; duration = ticks (packetDuration (countOf payload)) }))
     (moved w (p .cursor + (8 + length payload)) (p .frames .0) (p .samples .0 + countOf payload) (p .blocks .0 + 1))
 unfolding readSound
 sound-read file payload rest w a going s =

@@ -4,8 +4,9 @@ use mathlib.Core.Bool.{Bool, true, false, cond}
 use mathlib.Core.List.{List}
 use Prim.Native.Nat.{ℕ, _+_}
 use lib.ListN.{take, drop}
-use Rattle.demuxer.specs.Head.{bodyAt, countOf}
-use Rattle.demuxer.specs.Packet.{durationOf, payloadOf, shownOf}
+use Rattle.demuxer.specs.Head.{countOf}
+use Rattle.demuxer.specs.Steps.{bodyAt}
+use Rattle.demuxer.specs.Packet.{packetDuration, payloadOf, shownOf}
 use Rattle.fields.specs.File.{withinLimit}
 use Rattle.demuxer.specs.Position.{inRange, pastFrame, pastSound}
 use Rattle.demuxer.specs.Read.{End, saidRead, cutOff, advanced, readFrame, readSound, readChunk, readOf}
@@ -39,7 +40,7 @@ module _ (file : List ℕ) (w : Walker) (size : ℕ) where
       rw (o, b .1, b .2, b .0)
 
   pub sound-whole : (s n count : ℕ) (d : PacketDuration) (x : Walker) → bodyAt file (w .position .cursor + 8) size ≡ Whole s n
-      → count ≡ countOf (take size (drop s file)) → d ≡ durationOf count → x ≡ advanced w (pastSound (w .position) size count)
+      → count ≡ countOf (take size (drop s file)) → d ≡ packetDuration count → x ≡ advanced w (pastSound (w .position) size count)
       → readSound file w size
       ≡ saidRead file
       (record {

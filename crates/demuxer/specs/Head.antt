@@ -14,8 +14,6 @@ use Rattle.parse.specs.Preamble.{preambleOf}
 use Rattle.parse.specs.declared.preamble.AmvAudioPreamble.{AmvAudioPreamble}
 use Rattle.demuxer.specs.declared.head.Head.{Head}
 use Rattle.demuxer.specs.declared.head.Head.the-variants as head
-use Rattle.demuxer.specs.declared.head.Body.{Body}
-use Rattle.demuxer.specs.declared.head.Body.the-variants as body
 
 -- `AMV_END_` in two halves: the trailer's bytes as two numbers
 abbrev pub trailerTag : ℕ
@@ -42,10 +40,6 @@ headAt file at =
     let tag = le 4 file at in
     let size = le 4 file (at + 4) in
     cond (leb (at + 8) (length file)) (cond (isTrailer tag size) head.Trailer (chunkHead tag size)) head.Short
-
--- is the payload whole?
-unfoldable pub bodyAt : List ℕ → ℕ → ℕ → Body
-bodyAt file start size = cond (leb (start + size) (length file)) (body.Whole start size) body.Short
 
 -- the count of a preamble, 0 where there is none
 abbrev pub preambleCount : Answer AmvAudioPreamble → ℕ

@@ -3,3 +3,4 @@ pub mod Head
 pub mod Packet
 pub mod Read
 pub mod Sentences
+pub mod Steps

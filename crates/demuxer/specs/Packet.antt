@@ -17,8 +17,8 @@ pub record Shown : Type 0 where
   pub duration : Option ℕ
 
 -- "A zero sound duration is shown as none."
-abbrev pub durationOf : ℕ → PacketDuration
-durationOf count = cond (eqb count 0) None (Ticks count)
+abbrev pub packetDuration : ℕ → PacketDuration
+packetDuration count = cond (eqb count 0) None (Ticks count)
 
 abbrev pub ticks : PacketDuration → Option ℕ
 ticks (Ticks n) = some n

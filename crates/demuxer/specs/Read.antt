@@ -12,7 +12,7 @@ use Rattle.error.specs.declared.Refusal.{Refusal}
 use Rattle.fields.specs.File.{withinLimit}
 use Rattle.demuxer.specs.Position.{start, inRange, pastFrame, pastSound}
 use Rattle.demuxer.specs.Head.{headAt, countOf}
-use Rattle.demuxer.specs.Packet.{Shown, durationOf, ticks, shownOf}
+use Rattle.demuxer.specs.Packet.{Shown, packetDuration, ticks, shownOf}
 use Rattle.demuxer.specs.declared.head.Head.{Head}
 use Rattle.demuxer.specs.declared.head.Head.the-variants as head
 use Rattle.demuxer.specs.declared.position.Position.{Position}
@@ -90,7 +90,7 @@ readSound file w size =
     let payload = payloadAt file (w .position .cursor) size in
     ifWhole file w size
     (record {
-      answer = packet (record { stream = 1; payload = payload; stamp = w .position .samples .0; duration = ticks (durationOf (countOf payload)) });
+      answer = packet (record { stream = 1; payload = payload; stamp = w .position .samples .0; duration = ticks (packetDuration (countOf payload)) });
       walker = advanced w (pastSound (w .position) size (countOf payload));
     })
 

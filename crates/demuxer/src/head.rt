@@ -5,7 +5,8 @@ use parse::preamble::AmvAudioPreambleResult;
 ghost use mathlib.Core.Path.{_≡_};
 ghost use Prim.Native.Nat.{_+_};
 ghost use lib.ListN.{take, drop};
-ghost use Rattle.demuxer.specs.Head.{isTrailer, chunkHead, headAt, bodyAt, countOf};
+ghost use Rattle.demuxer.specs.Head.{isTrailer, chunkHead, headAt, countOf};
+ghost use Rattle.demuxer.specs.Steps.{bodyAt};
 
 // The trailer `AMV_END_` as a tag and a length: the first half.
 pub const TRAILER_TAG: u32 = 0x5f564d41;

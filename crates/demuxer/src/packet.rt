@@ -1,6 +1,6 @@
 // A packet, and its payload as a part of the file.
 ghost use mathlib.Core.Path.{_≡_};
-ghost use Rattle.demuxer.specs.Packet.{payloadOf, durationOf};
+ghost use Rattle.demuxer.specs.Packet.{payloadOf, packetDuration};
 
 // How long a packet lasts: in frames for a frame, in samples for sound, if that is known.
 pub enum PacketDuration {
@@ -20,7 +20,7 @@ pub struct Packet {
 
 // A sound block's duration by its count; a zero one is shown as none. Refuses nothing.
 pub fn shown(count: u32) -> PacketDuration
-    ensures { λ r. ⌜ r ≡ durationOf count ⌝ }
+    ensures { λ r. ⌜ r ≡ packetDuration count ⌝ }
 {
     if count == 0 {
         return PacketDuration::None;

@@ -7,7 +7,7 @@ use lib.Dec.{eqb}
 use borrow.Author.Tests.{eq-eqb, eqb-true}
 use Rattle.fields.specs.Le.{le, leBytes}
 use Rattle.fields.proofs.Impossible.{impossible}
-use Rattle.duration.specs.Duration.{packedOf, durationOf, totalSeconds, sameDuration, consistency}
+use Rattle.duration.specs.Duration.{packedOf, unpackedOf, totalSeconds, sameDuration, consistency}
 use Rattle.duration.specs.declared.AmvDuration.{AmvDuration}
 use Rattle.duration.specs.declared.DurationConsistency.the-variants.{Exact, TruncatedByOneSecond, Mismatch}
 
@@ -41,8 +41,8 @@ same-equal a b e = go _ _ _ refl refl refl e
     go false m h p q r t = impossible cc
 
 -- the packed form keeps the three parts
-pub packed-back : (d : AmvDuration) → d .seconds < 256 → d .minutes < 256 → d .hours < 256 → durationOf (packedOf d) ≡ d
-unfolding durationOf packedOf le leBytes
+pub packed-back : (d : AmvDuration) → d .seconds < 256 → d .minutes < 256 → d .hours < 256 → unpackedOf (packedOf d) ≡ d
+unfolding unpackedOf packedOf le leBytes
 packed-back d s m h =
     let p : ℕ = packedOf d in
     let first : p % 256 ≡ d .seconds = omega arith in

@@ -18,8 +18,8 @@ unfoldable pub packedOf : AmvDuration → ℕ
 packedOf d = le 4 (durationBytes d) 0
 
 -- and back; the fourth byte is not looked at
-unfoldable pub durationOf : ℕ → AmvDuration
-durationOf packed =
+unfoldable pub unpackedOf : ℕ → AmvDuration
+unpackedOf packed =
     let bytes = leBytes 4 packed in
     record { seconds = getD bytes 0 0; minutes = getD bytes 1 0; hours = getD bytes 2 0 }
 

@@ -1,6 +1,6 @@
 // The run length: hours, minutes and seconds, a byte each.
 ghost use mathlib.Core.Path.{_≡_};
-ghost use Rattle.duration.specs.Duration.{durationOf, packedOf, totalSeconds, ofSeconds, runLength, sameDuration, consistency, deviceConformant};
+ghost use Rattle.duration.specs.Duration.{unpackedOf, packedOf, totalSeconds, ofSeconds, runLength, sameDuration, consistency, deviceConformant};
 
 // A run length as the file has it.
 pub struct AmvDuration {
@@ -20,7 +20,7 @@ pub enum DurationConsistency {
 impl AmvDuration {
     // The run length of a packed number; its fourth byte is not looked at. Refuses nothing.
     pub fn from_packed(packed: u32) -> AmvDuration
-        ensures { λ r. ⌜ r ≡ durationOf packed ⌝ }
+        ensures { λ r. ⌜ r ≡ unpackedOf packed ⌝ }
     {
         AmvDuration {
             seconds: (packed % 256) as u8,

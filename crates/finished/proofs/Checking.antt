@@ -1,10 +1,9 @@
 -- The check's loop: what is left to check, and to pair, is the whole of it. Assumes nothing.
 use mathlib.Core.Path.{_≡_, refl, sym, ap, ap₂, _∙_}
 use mathlib.Core.Bool.{Bool, true, false, _&&_}
-use mathlib.Core.List.{List, [], _∷_}
+use mathlib.Core.List.{List}
 use Prim.Native.Nat.{ℕ, suc, _+_, _≤_}
 use native.Mathlib.Numerals.{add-one}
-use native.Mathlib.Omega.{arith}
 use borrow.Author.Tests.{leb-true, eq-eqb, ne-eqb}
 use lib.ListN.{length}
 use Rattle.chunk.specs.Chunk.{kindOf}
@@ -17,23 +16,12 @@ use Rattle.demuxer.specs.declared.position.Position.{Position}
 use Rattle.prelude.specs.Prelude.{parseOf, validatedOf, strictOf}
 use Rattle.prelude.specs.declared.prelude.AmvPrelude.{AmvPrelude}
 use Rattle.walk.specs.Steps.{Walked, pastAt}
-use Rattle.walk.specs.Walk.{kindTag, Walk, stop, walk, pastBy}
+use Rattle.walk.specs.Walk.{kindTag, Walk, stop, walk}
 use Rattle.walk.specs.declared.ChunkAt.{ChunkAt}
-use Rattle.walk.specs.declared.Kind.{Kind}
-use Rattle.walk.specs.declared.Kind.the-variants.{Frame, Sound}
 use Rattle.walk.specs.declared.Stop.{Stop}
 use Rattle.walk.proofs.Walked.{walked-start}
-use Rattle.walk.proofs.Walks.{Goes, past-is, past-cursor}
+use Rattle.walk.proofs.Walks.{Goes, past-is, past-cursor, chunksBefore, one-more}
 use Rattle.finished.specs.Check.{passes, tagsOf, checkStop, checkFrom, allPaired, checkChunks, checkOf}
-use Rattle.finished.specs.declared.Totals.{Totals}
-
--- how many chunks stand before a position
-abbrev pub chunksBefore : Position → ℕ
-chunksBefore p = p .frames .0 + p .blocks .0
-
-one-more : (p : Position) (kind : Kind) (size count : ℕ) → chunksBefore (pastBy p kind size count) ≡ chunksBefore p + 1
-one-more p Frame size count = omega arith
-one-more p Sound size count = omega arith
 
 pub record Checking (file : List ℕ) (p : Position) (paired : Bool) : Type 0 where
   pub walked : Walked p
@@ -76,7 +64,7 @@ module _ {file : List ℕ} {p : Position} {paired : Bool} (k : Checking file p p
     unfolding checkFrom tagsOf interleaveFrom
     check-on m v =
         let q : Position = pastAt file p c in
-        let n : chunksBefore q ≡ chunksBefore p + 1 = one-more p (c .kind) (c .size) _ in
+        let n : chunksBefore q ≡ chunksBefore p + 1 = one-more file p c in
         let w : walk file (q .cursor) ≡ walk file (p .cursor + (8 + c .size)) = ap (walk file) (past-cursor file p c) in
         let x : Answer Unit = interleaveAt (kindOf (kindTag (c .kind))) (chunksBefore p) in
         record {

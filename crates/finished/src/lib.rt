@@ -15,7 +15,6 @@ ghost use lib.ListN.{length};
 ghost use Rattle.chunk.specs.Chunk.{kindOf};
 ghost use Rattle.chunk.specs.Interleave.{interleaveAt, even};
 ghost use Rattle.fields.specs.File.{fileLimit};
-ghost use Rattle.walk.specs.Steps.{Walked};
 ghost use Rattle.finished.specs.Check.{passes, checkStop, checkChunks, checkOf, saidCheck};
 
 // What the check answers of a finished recording.

@@ -1,7 +1,7 @@
 -- The listing of a file. Document 01, "A small file, listed". Assumes nothing.
 use mathlib.Core.Path.{_≡_}
 use Prim.Native.Nat.{ℕ, _≤_, _<_}
-use mathlib.Core.Bool.{true, false, cond}
+use mathlib.Core.Bool.{cond}
 use mathlib.Core.List.{List, [], _++_}
 use lib.Dec.{leb}
 use lib.ListN.{length}
@@ -10,15 +10,14 @@ use Rattle.error.specs.declared.Refusal.{Refusal}
 use Rattle.lines.specs.Lines.{chunkLine, totalsLine, refusalLine, longLine}
 use Rattle.demuxer.specs.Position.{start}
 use Rattle.demuxer.specs.declared.position.Position.{Position}
-use Rattle.chunk_index.specs.Walk.{Kind, frame, sound, Walk, stop, chunk, past}
-use Rattle.chunk_index.specs.Index.{fileWalk}
-use Rattle.recording.specs.Check.{checkOf}
-use Rattle.recording.specs.declared.check.Totals.{Totals}
+use Rattle.walk.specs.Walk.{isFrame, Walk, stop, chunk, past, fileWalk}
+use Rattle.walk.specs.declared.Kind.{Kind}
+use Rattle.finished.specs.Check.{checkOf}
+use Rattle.finished.specs.declared.Totals.{Totals}
 
 -- 01: "prints kind, offset, frames, samples, blocks before"
 abbrev pub lineAt : Position → Kind → List ℕ
-lineAt p frame = chunkLine true (p .cursor) (p .frames .0) (p .samples .0) (p .blocks .0)
-lineAt p sound = chunkLine false (p .cursor) (p .frames .0) (p .samples .0) (p .blocks .0)
+lineAt p kind = chunkLine (isFrame kind) (p .cursor) (p .frames .0) (p .samples .0) (p .blocks .0)
 
 -- a line for every chunk of a walk, in order
 unfoldable pub chunkLines : Position → Walk → List ℕ

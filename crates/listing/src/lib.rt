@@ -1,20 +1,21 @@
 // The listing of a file, as bytes in a lent buffer.
-use demuxer::walker::NextPacket;
-use demuxer::walker::Walker;
+use demuxer::position::Position;
+use finished::CheckResult;
+use finished::check;
 use lines::put_chunk_line;
 use lines::put_long_line;
 use lines::put_refusal_line;
 use lines::put_totals_line;
-use recording::check::CheckResult;
-use recording::check::check;
+use walk::Step;
+use walk::step_at;
 ghost use Prim.Native.Nat.{_+_, _≤_};
 ghost use lib.ListN.{length};
 ghost use Rattle.lines.specs.Written.{Written};
 ghost use Rattle.demuxer.specs.Position.{start};
-ghost use Rattle.chunk_index.specs.Index.{fileWalk};
-ghost use Rattle.recording.specs.Check.{checkOf};
+ghost use Rattle.walk.specs.Walk.{fileWalk};
+ghost use Rattle.finished.specs.Check.{checkOf};
 ghost use Rattle.listing.specs.Listing.{chunkLines, checkedLines, inputLimit, listingOf};
-ghost use Rattle.listing.specs.Steps.{room, Whole};
+ghost use Rattle.listing.specs.Steps.{room};
 
 // The longest input that is listed, in bytes.
 pub const INPUT_LIMIT: usize = 65_536;
@@ -23,33 +24,30 @@ pub const INPUT_LIMIT: usize = 65_536;
 // bytes before the chunks are room for the totals.
 pub const ROOM: usize = 11 * INPUT_LIMIT;
 
-// One line for each chunk: of the position before the read that gives its packet.
+// One line for each chunk, of the position that it stands at.
 fn put_chunk_lines(out: &mut [u8], file: &[u8]) -> usize
     requires { ⌜ room ≤ length (now out) ⌝ }
     requires { ⌜ length (now file) ≤ inputLimit ⌝ }
-    requires { ⌜ Whole (fileWalk (now file)) ⌝ }
     ensures { λ r. ⌜ Written (now (out .entry)) 0 (chunkLines start (fileWalk (now (file .entry)))) (now (out .exit)) r ⌝ }
     ensures { λ r. ⌜ r + 119 ≤ room ⌝ }
 {
-    let mut walker = Walker::new();
+    let mut position = Position::new();
     let mut at = 0;
     loop {
-        let position = walker.position;
-        let read = walker.next_packet(file);
-        let answer = read.answer;
-        let NextPacket::Packet(packet) = answer else {
+        let Step::Chunk(chunk) = step_at(file, position.cursor as usize) else {
             return at;
         };
+        let kind = chunk.kind;
         at = put_chunk_line(
             out,
             at,
-            packet.stream == 0,
+            kind.is_frame(),
             position.cursor,
             position.frames.0,
             position.samples.0,
             position.blocks.0,
         );
-        walker = read.walker;
+        position = chunk.past(file, position);
     }
 }
 

@@ -18,7 +18,7 @@ use Rattle.fields.specs.File.{fileLimit}
 use Rattle.fields.specs.Le.{leBytes, put}
 use Rattle.fields.proofs.Laws.{put-put, length-leBytes}
 use Rattle.prelude.specs.Layout.{preludeLen}
-use Rattle.muxer.specs.Writer.{outcome, Meets, fits, hasPrelude, packetBytes, askOpen, packetQuestions, trailerQuestions, headerQuestions}
+use Rattle.muxer.specs.Writer.{outcome, MeetsOutcome, fits, hasPrelude, packetBytes, askOpen, packetQuestions, trailerQuestions, headerQuestions}
 use Rattle.muxer.specs.Steps.{acceptedWith, refusedWith}
 use Rattle.muxer.specs.declared.Writer.{Writer}
 use Rattle.muxer.specs.declared.Wrote.{Wrote}
@@ -153,7 +153,7 @@ told-ok p e = sym p ∙ ap said e
 
 module _ {q : Answer Unit} {s : AmvResult} (w : Writer) (buf : List ℕ) (next : Writer) (after : List ℕ) where
   pub meets-ok : {r : Wrote} {writer : Writer} {buffer : List ℕ} → said s ≡ q → s ≡ Ok → r ≡ acceptedWith writer → writer ≡ next → buffer ≡ after
-      → Meets (outcome q w buf next after) r buffer
+      → MeetsOutcome (outcome q w buf next after) r buffer
   meets-ok p e g a b =
       let k : accepted tt ≡ q = sym (told-ok p e) in
       record {
@@ -162,7 +162,7 @@ module _ {q : Answer Unit} {s : AmvResult} (w : Writer) (buf : List ℕ) (next :
         buffer = b ∙ ap (λ (x : Answer Unit). outcome x w buf next after .buffer) k;
       }
 
-  pub meets-err : {e : AmvError} {r : Wrote} → said s ≡ q → s ≡ Err e → r ≡ refusedWith e w → Meets (outcome q w buf next after) r buf
+  pub meets-err : {e : AmvError} {r : Wrote} → said s ≡ q → s ≡ Err e → r ≡ refusedWith e w → MeetsOutcome (outcome q w buf next after) r buf
   meets-err {e} p d g =
       let k : refused (refusalOf e) ≡ q = sym (ap said d) ∙ p in
       record {

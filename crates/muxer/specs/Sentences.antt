@@ -11,7 +11,7 @@ use Rattle.error.specs.Sentences.{GivesBack, RefusedBy}
 use Rattle.fields.specs.Le.{leBytes, put}
 use Rattle.prelude.specs.Built.{preludeBytes}
 use Rattle.prelude.specs.Layout.{preludeLen}
-use Rattle.muxer.specs.Writer.{fresh, frameLimit, Outcome, headerCall, packetCall, trailerCall}
+use Rattle.muxer.specs.Writer.{fresh, frameLimit, WriteOutcome, headerCall, packetCall, trailerCall}
 use Rattle.muxer.specs.declared.Settings.{Settings}
 use Rattle.muxer.specs.declared.Writer.{Writer}
 
@@ -20,7 +20,7 @@ pub record Lent : Type 0 where
   pub writer : Writer
   pub buffer : List ℕ
 
-abbrev pub left : Outcome → Lent
+abbrev pub left : WriteOutcome → Lent
 left o = record { writer = o .writer; buffer = o .buffer }
 
 -- "The file is the first bytes-written bytes of one lent buffer"
@@ -33,7 +33,7 @@ RefusedAt place (accepted x) = Unit
 RefusedAt place (refused r) = r .place ≡ place
 
 -- what 01 says of each of the three calls: a refusal gives state and buffer back, its number is one of these, "Place is bytes written"
-pub record CallSentences (numbers : List ℕ) (call : Lent → Outcome) : Type 0 where
+pub record CallSentences (numbers : List ℕ) (call : Lent → WriteOutcome) : Type 0 where
   pub gives-back : GivesBack (λ l. call l .answer) (λ l. left (call l))
   pub numbered : (l : Lent) → RefusedBy numbers (call l .answer)
   pub placed : (l : Lent) → RefusedAt (l .writer .written) (call l .answer)

@@ -1,4 +1,4 @@
--- Steps on the way: what private functions promise each other. Nothing here need be believed. Assumes nothing.
+-- Steps on the way: what functions below the calls promise each other. Nothing here need be believed. Assumes nothing.
 use Rattle.error.specs.declared.AmvError.{AmvError}
 use Rattle.error.specs.declared.AmvResult.the-variants.{Ok, Err}
 use Rattle.muxer.specs.declared.Writer.{Writer}

@@ -22,13 +22,13 @@ abbrev pub fresh : Settings → Writer
 fresh s = record { settings = s; begun = false; ended = false; written = 0; frames = 0 }
 
 -- what a call leaves: its answer, the state and the whole lent buffer
-pub record Outcome : Type 0 where
+pub record WriteOutcome : Type 0 where
   pub answer : Answer Unit
   pub writer : Writer
   pub buffer : List ℕ
 
 -- 01: a refusal "returns the state it was given and changes no lent byte"
-abbrev pub outcome : Answer Unit → Writer → List ℕ → Writer → List ℕ → Outcome
+abbrev pub outcome : Answer Unit → Writer → List ℕ → Writer → List ℕ → WriteOutcome
 outcome (accepted u) w buf next after = record { answer = accepted tt; writer = next; buffer = after }
 outcome (refused r) w buf next after = record { answer = refused r; writer = w; buffer = buf }
 
@@ -53,7 +53,7 @@ headerQuestions w room =
 abbrev pub afterHeader : Writer → Writer
 afterHeader w = record { settings = w .settings; begun = true; ended = w .ended; written = preludeLen; frames = w .frames }
 
-unfoldable pub headerCall : Writer → List ℕ → Outcome
+unfoldable pub headerCall : Writer → List ℕ → WriteOutcome
 headerCall w buf =
     let s = w .settings in
     outcome (headerQuestions w (length buf)) w buf
@@ -100,7 +100,7 @@ afterPacket w size stream =
       frames = framesAfter stream (w .frames);
     }
 
-unfoldable pub packetCall : Writer → List ℕ → ℕ → List ℕ → Outcome
+unfoldable pub packetCall : Writer → List ℕ → ℕ → List ℕ → WriteOutcome
 packetCall w payload stream buf =
     outcome (packetQuestions w (length payload) stream (length buf)) w buf
     (afterPacket w (length payload) stream)
@@ -123,14 +123,14 @@ patchRunLength w buf =
 abbrev pub afterTrailer : Writer → Writer
 afterTrailer w = record { settings = w .settings; begun = w .begun; ended = true; written = w .written + 8; frames = w .frames }
 
-unfoldable pub trailerCall : Writer → List ℕ → Outcome
+unfoldable pub trailerCall : Writer → List ℕ → WriteOutcome
 trailerCall w buf =
     outcome (trailerQuestions w (length buf)) w buf
     (afterTrailer w)
     (patchRunLength w (put buf (w .written) trailerBytes))
 
 -- what a call gave and left, by the definition of its outcome
-pub record Meets (o : Outcome) (r : Wrote) (after : List ℕ) : Type 0 where
+pub record MeetsOutcome (o : WriteOutcome) (r : Wrote) (after : List ℕ) : Type 0 where
   pub answer : said (r .result) ≡ o .answer
   pub writer : r .writer ≡ o .writer
   pub buffer : after ≡ o .buffer

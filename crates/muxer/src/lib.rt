@@ -17,7 +17,7 @@ ghost use Rattle.fields.specs.Le.{put};
 ghost use Rattle.prelude.specs.Built.{preludeBytes};
 ghost use Rattle.prelude.specs.Layout.{preludeLen};
 ghost use Rattle.muxer.specs.Writer.{fresh, fits, framesAfter, packetBytes, patchRunLength, askOpen, headerQuestions, packetQuestions};
-ghost use Rattle.muxer.specs.Writer.{trailerQuestions, afterHeader, afterPacket, afterTrailer, headerCall, packetCall, trailerCall, Meets};
+ghost use Rattle.muxer.specs.Writer.{trailerQuestions, afterHeader, afterPacket, afterTrailer, headerCall, packetCall, trailerCall, MeetsOutcome};
 ghost use Rattle.muxer.specs.Steps.{acceptedWith, refusedWith};
 
 // The most frames that a writer counts: the largest u64.
@@ -294,7 +294,7 @@ impl Writer {
     // Writes the prelude at the buffer's start. Refused in this order, with state and buffer as they were: begun already 50, ended 55, no room
     // 54. The place is the bytes written, as of every refusal of a writer.
     pub fn write_header(self, buf: &mut [u8]) -> Wrote
-        ensures { λ r. ⌜ Meets (headerCall self (now (buf .entry))) r (now (buf .exit)) ⌝ }
+        ensures { λ r. ⌜ MeetsOutcome (headerCall self (now (buf .entry))) r (now (buf .exit)) ⌝ }
     {
         match self.ask_header(buf.len()) {
             AmvResult::Err(e) => Wrote::refused(e, self),
@@ -309,7 +309,7 @@ impl Writer {
     // Writes a packet after what is written. Refused in this order, with state and buffer as they were: not begun 51, ended 55, no prelude
     // written 56, a payload past the largest u32 52, a stream that is not 0 or 1 53, no room in the buffer or below the file limit 54.
     pub fn write_packet(self, buf: &mut [u8], payload: &[u8], stream: u32) -> Wrote
-        ensures { λ r. ⌜ Meets (packetCall self (now (payload .entry)) stream (now (buf .entry))) r (now (buf .exit)) ⌝ }
+        ensures { λ r. ⌜ MeetsOutcome (packetCall self (now (payload .entry)) stream (now (buf .entry))) r (now (buf .exit)) ⌝ }
     {
         match self.ask_packet(payload.len(), stream, buf.len()) {
             AmvResult::Err(e) => Wrote::refused(e, self),
@@ -323,7 +323,7 @@ impl Writer {
     // Writes the trailer, patches the run length into the prelude and ends the file. Refused in this order, with state and buffer as they were:
     // not begun 51, ended already 55, no prelude written 56, no room in the buffer or below the file limit 54.
     pub fn write_trailer(self, buf: &mut [u8]) -> Wrote
-        ensures { λ r. ⌜ Meets (trailerCall self (now (buf .entry))) r (now (buf .exit)) ⌝ }
+        ensures { λ r. ⌜ MeetsOutcome (trailerCall self (now (buf .entry))) r (now (buf .exit)) ⌝ }
     {
         match self.ask_trailer(buf.len()) {
             AmvResult::Err(e) => Wrote::refused(e, self),

@@ -6,7 +6,7 @@ ghost use mathlib.Core.Path.{_≡_};
 ghost use Prim.Native.Nat.{_*_};
 ghost use lib.IntN.{pos};
 ghost use Rattle.error.specs.Refusal.{said};
-ghost use Rattle.duration.specs.Duration.{durationOf, totalSeconds};
+ghost use Rattle.duration.specs.Duration.{unpackedOf, totalSeconds};
 ghost use Rattle.parse.specs.Header.{newHeader, headerOf, saidHeader, headerSentinels};
 
 // The fields of the body that a reader needs; the rest of it is zero, which the strict parse asks.
@@ -66,14 +66,14 @@ impl AmvHeader {
 
     // The run length. Refuses nothing.
     pub fn duration(self) -> AmvDuration
-        ensures { λ r. ⌜ r ≡ durationOf (self .«duration_packed») ⌝ }
+        ensures { λ r. ⌜ r ≡ unpackedOf (self .«duration_packed») ⌝ }
     {
         AmvDuration::from_packed(self.duration_packed)
     }
 
     // The run length in microseconds, the unit of the frame interval. Refuses nothing.
     pub fn duration_micros(self) -> i64
-        ensures { λ r. ⌜ r ≡ pos (1000000 * totalSeconds (durationOf (self .«duration_packed»))) ⌝ }
+        ensures { λ r. ⌜ r ≡ pos (1000000 * totalSeconds (unpackedOf (self .«duration_packed»))) ⌝ }
     {
         let micros = (self.duration().total_seconds() as u64) * 1000000;
         micros as i64

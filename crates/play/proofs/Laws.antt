@@ -7,14 +7,14 @@ use Rattle.demuxer.specs.Read.{Reading, saidNext, saidRead, readOf}
 use Rattle.demuxer.specs.declared.walker.NextPacket.{NextPacket}
 use Rattle.demuxer.specs.declared.walker.Read.{Read}
 use Rattle.demuxer.specs.declared.walker.Walker.{Walker}
-use Rattle.muxer.specs.Writer.{Outcome, Meets}
+use Rattle.muxer.specs.Writer.{WriteOutcome, MeetsOutcome}
 use Rattle.muxer.specs.declared.Writer.{Writer}
 use Rattle.muxer.specs.declared.Wrote.{Wrote}
-use Rattle.play.specs.Recording.{Left, goOn, played}
+use Rattle.play.specs.Recording.{WriterLeft, goOn, played}
 
 -- a call on what another left has the outcome of one after the other
-pub onwards : (f : Writer → List ℕ → Outcome) (o : Outcome) {w r : Writer} {b after : List ℕ} → Left o w b → Left (f w b) r after
-    → Left (f (o .writer) (o .buffer)) r after
+pub onwards : (f : Writer → List ℕ → WriteOutcome) (o : WriteOutcome) {w r : Writer} {b after : List ℕ} → WriterLeft o w b → WriterLeft (f w b) r after
+    → WriterLeft (f (o .writer) (o .buffer)) r after
 onwards f o first second =
     record {
       writer = second .writer ∙ ap₂ (λ (w : Writer) (b : List ℕ). f w b .writer) (first .writer) (first .buffer);
@@ -38,5 +38,5 @@ played-none n file w none =
     ap (λ (k : ℕ). played k file w) zeros
 
 -- a call's answer printed leaves its state and bytes
-pub kept : (o : Outcome) {r : Wrote} {after : List ℕ} → Meets o r after → Left o (r .writer) after
+pub kept : (o : WriteOutcome) {r : Wrote} {after : List ℕ} → MeetsOutcome o r after → WriterLeft o (r .writer) after
 kept o m = record { writer = m .writer; buffer = m .buffer }

@@ -15,12 +15,12 @@ use libc::STDOUT_FILENO;
 use muxer::Settings;
 use muxer::Writer;
 use muxer::Wrote;
+use seek::SeekOutcome;
 use seek::SeekResult;
-use seek::Sought;
 ghost use mathlib.Core.Path.{_≡_};
 ghost use lib.ListN.{length, take};
 ghost use Rattle.muxer.specs.Writer.{packetCall};
-ghost use Rattle.play.specs.Recording.{Left, pairOf, packetsOf, recordingOf, played};
+ghost use Rattle.play.specs.Recording.{WriterLeft, pairOf, packetsOf, recordingOf, played};
 
 // More than the recording takes.
 const ROOM: usize = 512;
@@ -67,7 +67,7 @@ fn print_wrote(what: &[u8], wrote: Wrote) {
 }
 
 fn write_packet(what: &[u8], writer: Writer, buf: &mut [u8], payload: &[u8], stream: u32) -> Writer
-    ensures { λ r. ⌜ Left (packetCall writer (now (payload .entry)) stream (now (buf .entry))) r (now (buf .exit)) ⌝ }
+    ensures { λ r. ⌜ WriterLeft (packetCall writer (now (payload .entry)) stream (now (buf .entry))) r (now (buf .exit)) ⌝ }
 {
     let wrote = amv::plain::write_packet(writer, buf, payload, stream);
     print_wrote(what, wrote);
@@ -75,7 +75,7 @@ fn write_packet(what: &[u8], writer: Writer, buf: &mut [u8], payload: &[u8], str
 }
 
 fn write_pair(writer: Writer, buf: &mut [u8], frame: &[u8], block: &[u8]) -> Writer
-    ensures { λ r. ⌜ Left (pairOf writer (now (buf .entry)) (now (frame .entry)) (now (block .entry))) r (now (buf .exit)) ⌝ }
+    ensures { λ r. ⌜ WriterLeft (pairOf writer (now (buf .entry)) (now (frame .entry)) (now (block .entry))) r (now (buf .exit)) ⌝ }
 {
     let writer = write_packet(b"frame", writer, buf, frame, 0);
     write_packet(b"sound", writer, buf, block, 1)
@@ -83,7 +83,7 @@ fn write_pair(writer: Writer, buf: &mut [u8], frame: &[u8], block: &[u8]) -> Wri
 
 // Two frames, each with a block of sound: of 2 samples, and of 3. A packet of no stream is refused.
 fn write_packets(writer: Writer, buf: &mut [u8]) -> Writer
-    ensures { λ r. ⌜ Left (packetsOf writer (now (buf .entry))) r (now (buf .exit)) ⌝ }
+    ensures { λ r. ⌜ WriterLeft (packetsOf writer (now (buf .entry))) r (now (buf .exit)) ⌝ }
 {
     let block = [0u8, 0, 0, 0, 2, 0, 0, 0, 7, 7];
     let writer = write_pair(writer, buf, b"one", &block);
@@ -93,7 +93,7 @@ fn write_packets(writer: Writer, buf: &mut [u8]) -> Writer
 }
 
 fn write_recording(buf: &mut [u8]) -> Writer
-    ensures { λ r. ⌜ Left (recordingOf (now (buf .entry))) r (now (buf .exit)) ⌝ }
+    ensures { λ r. ⌜ WriterLeft (recordingOf (now (buf .entry))) r (now (buf .exit)) ⌝ }
 {
     let muxer = AmvMuxer::new(Settings {
         width: 8,
@@ -184,7 +184,7 @@ fn print_progress(file: &[u8], walker: Walker) {
     print(b"\n");
 }
 
-fn print_sought(sought: Sought) {
+fn print_sought(sought: SeekOutcome) {
     print(b"jump");
     let result = sought.result;
     match result {
@@ -197,8 +197,8 @@ fn print_sought(sought: Sought) {
 }
 
 // From the second frame on: the sound that is read next belongs to it.
-fn jump(file: &[u8], walker: Walker, records: &[u8]) {
-    let sought = amv::plain::seek(file, walker, records, 0, 1);
+fn jump(file: &[u8], walker: Walker, table: &[u8]) {
+    let sought = amv::plain::seek_to_via_index(file, walker, table, 0, 1);
     print_sought(sought);
     let walker = sought.walker;
     print_progress(file, play(file, walker));

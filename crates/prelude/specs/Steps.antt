@@ -1,4 +1,4 @@
--- Steps on the way: what private functions promise each other. Nothing here need be believed. Assumes nothing.
+-- Steps on the way: what functions below the calls promise each other. Nothing here need be believed. Assumes nothing.
 use Prim.Native.Nat.{ℕ, _+_, _≤_}
 use mathlib.Core.List.{List, [], _∷_}
 use Rattle.fields.specs.Capped.{quotient}

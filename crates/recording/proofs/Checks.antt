@@ -1,6 +1,6 @@
 -- The check accepts exactly the files of the grammar, and its totals are the drain's. Assumes nothing.
 use mathlib.Core.Path.{_≡_, refl, sym, ap, ap₂, _∙_}
-use mathlib.Core.Bool.{Bool, true, false, cond, _&&_}
+use mathlib.Core.Bool.{Bool, true, false, cond}
 use mathlib.Core.List.{List, [], _∷_, _++_, append-assoc, append-nil}
 use Prim.Native.Nat.{ℕ, zero, suc, _+_, _-_, _^_, _≤_, _<_}
 use native.Mathlib.Nat.{zero-add}
@@ -14,7 +14,7 @@ use Rattle.chunk.specs.Interleave.{interleave}
 use Rattle.chunk.specs.declared.ChunkKind.{ChunkKind}
 use Rattle.chunk.specs.declared.ChunkKind.the-variants.{Video, Audio, Other}
 use Rattle.chunk.proofs.Chunks.{kind-video, kind-audio}
-use Rattle.error.specs.Answer.{Answer, accepted, refused, andThen}
+use Rattle.error.specs.Answer.{Answer, accepted, andThen}
 use Rattle.error.proofs.Answers.{never, then-accepted, ask-passed, both}
 use Rattle.fields.specs.File.{fileLimit, withinLimit}
 use Rattle.fields.specs.Le.{le, leBytes, Bytes}
@@ -30,12 +30,11 @@ use Rattle.demuxer.specs.Read.{payloadAt}
 use Rattle.demuxer.specs.declared.head.Head.{Head}
 use Rattle.demuxer.specs.declared.head.Head.the-variants as head
 use Rattle.demuxer.specs.declared.position.Position.{Position}
-use Rattle.walk.specs.Walk.{Walk, stop, onHead, stepAt, onStep, walkFor, walk, fileWalk, past}
+use Rattle.walk.specs.Walk.{Walk, stop, onHead, stepAt, onStep, walkFor, walk, fileWalk, past, kindTag}
 use Rattle.walk.specs.declared.Kind.{Kind}
 use Rattle.walk.specs.declared.Kind.the-variants.{Frame, Sound}
 use Rattle.walk.specs.declared.Stop.the-variants.{RanOut, Trailer}
 use Rattle.walk.specs.Chunks.{Chunk, chunkOf, chunkBytes, chunksBytes, Lengths, walkOf}
-use Rattle.walk.specs.Walk.{kindTag}
 use Rattle.walk.proofs.Chunked.{chunks-walked}
 use Rattle.finished.specs.Check.{passes, tagsOf, checkFrom, allPaired, checkChunks, checkOf}
 use Rattle.recording.specs.Check.{chunkTags, totalsOf, CheckIsGrammar}
@@ -59,7 +58,8 @@ finished-strict file cs f =
 -- and its walk is that of its chunks
 pub finished-walk : (file : List ℕ) (cs : List Chunk) → Finished file cs → fileWalk file ≡ walkOf cs 0
 finished-walk file cs f =
-    let e : file ≡ f .prelude ++ (chunksBytes cs ++ (trailerBytes ++ [])) = f .is ∙ ap (λ (t : List ℕ). f .prelude ++ (chunksBytes cs ++ t)) (sym (append-nil trailerBytes)) in
+    let e : file ≡ f .prelude ++ (chunksBytes cs ++ (trailerBytes ++ [])) =
+    f .is ∙ ap (λ (t : List ℕ). f .prelude ++ (chunksBytes cs ++ t)) (sym (append-nil trailerBytes)) in
     let n = sym (f .whole) in
     (λ i. walk (e i) (n i)) ∙ chunks-walked (f .prelude) cs [] (f .lengths)
 
@@ -88,11 +88,13 @@ checked p paired [] = ap accepted (same-totals (omega arith) (omega arith) (omeg
 checked p paired (chunkOf Frame payload ∷ cs) =
     checked (past p Frame payload 0) paired cs
     ∙ ap accepted
-    (same-totals (omega arith) (omega arith) (omega arith) (omega (arith, length-append (chunkBytes (chunkOf Frame payload)) (chunksBytes cs), length-chunk Frame payload)) refl)
+    (same-totals (omega arith) (omega arith) (omega arith)
+    (omega (arith, length-append (chunkBytes (chunkOf Frame payload)) (chunksBytes cs), length-chunk Frame payload)) refl)
 checked p paired (chunkOf Sound payload ∷ cs) =
     checked (past p Sound payload 0) paired cs
     ∙ ap accepted
-    (same-totals (omega arith) (omega arith) (omega arith) (omega (arith, length-append (chunkBytes (chunkOf Sound payload)) (chunksBytes cs), length-chunk Sound payload)) refl)
+    (same-totals (omega arith) (omega arith) (omega arith)
+    (omega (arith, length-append (chunkBytes (chunkOf Sound payload)) (chunksBytes cs), length-chunk Sound payload)) refl)
 
 pub check-accepts : (file : List ℕ) (cs : List Chunk) → Finished file cs → checkOf file ≡ accepted (totalsOf cs)
 unfolding checkOf
@@ -169,7 +171,8 @@ chunk-more file at size kind b h m c =
     let s : size < 256 ^ 4 = rw (← h .size-is) (le-lt 4 file (at + 4) b) in
     let k : at + 8 + size ≡ at + (8 + size) = omega arith in
     let r : drop (at + 8) file ≡ payloadAt file at size ++ drop (at + (8 + size)) file =
-    sym (take-append-drop size (drop (at + 8) file)) ∙ ap (λ (x : List ℕ). payloadAt file at size ++ x) (drop-drop size (at + 8) file ∙ ap (λ (j : ℕ). drop j file) k) in
+    sym (take-append-drop size (drop (at + 8) file))
+    ∙ ap (λ (x : List ℕ). payloadAt file at size ++ x) (drop-drop size (at + 8) file ∙ ap (λ (j : ℕ). drop j file) k) in
     let p : List ℕ = payloadAt file at size in
     record {
       chunks = chunkOf kind p ∷ c .chunks;
@@ -186,7 +189,10 @@ trailer-last file at b h z =
     let e : drop (at + 8) file ≡ [] = drop-none (at + 8) file (omega arith) in
     record {
       chunks = [];
-      are = header-bytes file at trailerTag trailerSize b h ∙ ap (λ (x : List ℕ). leBytes 4 trailerTag ++ (leBytes 4 trailerSize ++ x)) e ∙ ap (λ (x : List ℕ). leBytes 4 trailerTag ++ x) (append-nil (leBytes 4 trailerSize));
+      are =
+          header-bytes file at trailerTag trailerSize b h
+          ∙ ap (λ (x : List ℕ). leBytes 4 trailerTag ++ (leBytes 4 trailerSize ++ x)) e
+          ∙ ap (λ (x : List ℕ). leBytes 4 trailerTag ++ x) (append-nil (leBytes 4 trailerSize));
       held = tt;
     }
   where

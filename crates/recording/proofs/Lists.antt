@@ -28,7 +28,9 @@ use Rattle.chunk_index.specs.declared.entry.ChunkIndexEntry.{ChunkIndexEntry}
 use Rattle.seek.specs.Seek.{seekQuestions, goodEntries, find, pastLast, landed, soughtFrom, seekOf}
 use Rattle.recording.specs.Grammar.{Finished}
 use Rattle.recording.specs.Drain.{drain}
-use Rattle.recording.specs.Machine.{Call, read, seek, MachineStep, onRead, onSeek, first, refuses, machineStep, machineSays, machineAfter, readAnswer, seekAnswer, Called, call, answers, after, Agrees, AllAgree, Left, none-left, one-more, AtChunk, Agreement, OwnIndex, ReadsAndSeeks, HasIndex}
+use Rattle.recording.specs.Machine.{Call, read, seek, MachineStep, onRead, onSeek, first, refuses, machineStep, machineSays, machineAfter}
+use Rattle.recording.specs.Machine.{readAnswer, seekAnswer, CallOutcome, call, answers, after, Agrees, AllAgree, PacketsLeft, none-left, one-more}
+use Rattle.recording.specs.Machine.{AtChunk, Agreement, OwnIndex, ReadsAndSeeks, HasIndex}
 use Rattle.recording.proofs.Positions.{passed, shownAt, positionAt, length-drain, Here, here, chunks-split, counted, bounded}
 use Rattle.chunk_index.proofs.Entries.{length-table}
 use Rattle.recording.proofs.Tables.{marks, index-marks, table-back, marks-fit}
@@ -54,7 +56,7 @@ pub data Invariant (cs : List Chunk) (w : Walker) (k : ℕ) : Type 0 where
   at-the-end : Over cs w k → Invariant cs w k
 
 -- one call of either kind: it agrees, and keeps the invariant
-pub record Turn (cs : List Chunk) (c : Called) (m : MachineStep) : Type 0 where
+pub record Turn (cs : List Chunk) (c : CallOutcome) (m : MachineStep) : Type 0 where
   pub agrees : Agrees (m .says) (c .answer)
   pub keeps : Invariant cs (c .walker) (m .place)
 
@@ -122,7 +124,7 @@ module _ (file : List ℕ) (cs : List Chunk) (all : Bytes file) (fin : Finished 
 
   -- ---- a read
 
-  abbrev pub reading : Walker → Called
+  abbrev pub reading : Walker → CallOutcome
   reading w = record { answer = readAnswer (readOf file w .answer); walker = readOf file w .walker }
 
   abbrev pub readStep : ℕ → MachineStep
@@ -147,7 +149,8 @@ module _ (file : List ℕ) (cs : List Chunk) (all : Bytes file) (fin : Finished 
       split-file k
       ∙ ap (λ (l : List Chunk). before k ++ (chunksBytes l ++ trailerBytes)) (c .rest)
       ∙ ap (λ (l : List ℕ). before k ++ l) (append-assoc (chunkBytes (chunkOf (c .kind) (c .payload))) (chunksBytes (drop (suc k) cs)) trailerBytes) in
-      let o : readOf file w ≡ record { answer = packet (shownAt (w .position) (c .kind) (c .payload)); walker = advanced w (passed (w .position) (c .kind) (c .payload)) } =
+      let o : readOf file w
+      ≡ record { answer = packet (shownAt (w .position) (c .kind) (c .payload)); walker = advanced w (passed (w .position) (c .kind) (c .payload)) } =
       read-chunk file w (before k) (fin .fits) (in-range (w .position) r) (c .kind) (c .payload) ys (c .small) (i .going)
       (ap (λ (p : Position). p .cursor) (i .on) ∙ at-cursor k) f in
       rw (o, c .shown)
@@ -169,7 +172,7 @@ module _ (file : List ℕ) (cs : List Chunk) (all : Bytes file) (fin : Finished 
 
   -- ---- what is left
 
-  lefts : (n : ℕ) (w : Walker) (k : ℕ) → k + n ≡ length cs → Invariant cs w k → Left file w (drop k (drain cs))
+  lefts : (n : ℕ) (w : Walker) (k : ℕ) → k + n ≡ length cs → Invariant cs w k → PacketsLeft file w (drop k (drain cs))
   lefts zero w k e i =
       let t : Turn cs (reading w) (onRead k none) = rw (none-past cs k (omega arith)) at (read-turn w k i) in
       rw (drop-of-length-le (drain cs) {i = k} (omega (arith, length-drain start cs))) (none-left {w = w} (told (t .agrees)))
@@ -178,7 +181,7 @@ module _ (file : List ℕ) (cs : List Chunk) (all : Bytes file) (fin : Finished 
       let t : Turn cs (reading w) (onRead k (some _)) = rw (c .shown) at (read-turn w k i) in
       rw (c .left) (one-more {w = w} (told (t .agrees)) (lefts n (readOf file w .walker) (suc k) (omega arith) (t .keeps)))
 
-  pub left-of : (w : Walker) (k : ℕ) → Invariant cs w k → Left file w (drop k (drain cs))
+  pub left-of : (w : Walker) (k : ℕ) → Invariant cs w k → PacketsLeft file w (drop k (drain cs))
   left-of w k i = lefts (length cs - k) w k (omega (arith, within cs w k i)) i
 
   -- ---- the index
@@ -219,7 +222,7 @@ module _ (file : List ℕ) (cs : List Chunk) (all : Bytes file) (fin : Finished 
 
     -- ---- a seek
 
-    abbrev pub seeking : Walker → ℕ → ℤ → Called
+    abbrev pub seeking : Walker → ℕ → ℤ → CallOutcome
     seeking w stream request = record { answer = seekAnswer (seekOf table w stream request .answer); walker = seekOf table w stream request .walker }
 
     abbrev pub seekStep : ℕ → ℤ → MachineStep

@@ -18,7 +18,7 @@ use Rattle.seek.proofs.Sentences.{seek-sentences}
 use Rattle.muxer.specs.Writer.{headerCall, packetCall, trailerCall}
 use Rattle.muxer.specs.declared.Writer.{Writer}
 use Rattle.muxer.proofs.Sentences.{write-sentences}
-use Rattle.recording.specs.Written.{WriteCall, header, packet, trailer, writeStep}
+use Rattle.recording.specs.WriteLists.{WriteCall, header, packet, trailer, writeStep}
 
 abbrev pub Numbered : {A : Type 0} → Answer A → Type 0
 Numbered (accepted x) = Unit

@@ -13,7 +13,7 @@ use Rattle.chunk.specs.Chunk.{payloadLimit}
 use Rattle.fields.specs.Le.{le, leBytes, Bytes}
 use Rattle.fields.proofs.Laws.{le-lt, bytes-left, bytes-right}
 use Rattle.demuxer.specs.Head.{countOf}
-use Rattle.demuxer.specs.Packet.{Shown, durationOf, ticks}
+use Rattle.demuxer.specs.Packet.{Shown, packetDuration, ticks}
 use Rattle.demuxer.specs.Position.{pastFrame, pastSound}
 use Rattle.demuxer.proofs.Bodies.{count-is}
 use Rattle.demuxer.specs.declared.position.Position.{Position}
@@ -31,7 +31,7 @@ passed p Sound payload = pastSound p (length payload) (countOf payload)
 -- the packet of a chunk that stands at a position
 abbrev pub shownAt : Position → Kind → List ℕ → Shown
 shownAt p Frame payload = record { stream = 0; payload = payload; stamp = p .frames .0; duration = some 1 }
-shownAt p Sound payload = record { stream = 1; payload = payload; stamp = p .samples .0; duration = ticks (durationOf (countOf payload)) }
+shownAt p Sound payload = record { stream = 1; payload = payload; stamp = p .samples .0; duration = ticks (packetDuration (countOf payload)) }
 
 -- past k chunks
 unfoldable pub positionAt : Position → ℕ → List Chunk → Position
@@ -90,7 +90,9 @@ pub chunks-split : (k : ℕ) (cs : List Chunk) → chunksBytes cs ≡ chunksByte
 unfolding chunksBytes
 chunks-split zero cs = refl
 chunks-split (suc k) [] = refl
-chunks-split (suc k) (c ∷ cs) = ap (λ (l : List ℕ). chunkBytes c ++ l) (chunks-split k cs) ∙ sym (append-assoc (chunkBytes c) (chunksBytes (take k cs)) (chunksBytes (drop k cs)))
+chunks-split (suc k) (c ∷ cs) =
+    ap (λ (l : List ℕ). chunkBytes c ++ l) (chunks-split k cs)
+    ∙ sym (append-assoc (chunkBytes c) (chunksBytes (take k cs)) (chunksBytes (drop k cs)))
 
 -- what is counted on the way from p to q
 pub record Counted (p q : Position) (done : List Chunk) : Type 0 where
@@ -104,9 +106,11 @@ unfolding positionAt chunksBytes frames samples blocks
 counted p zero cs = omega arith
 counted p (suc k) [] = omega arith
 counted p (suc k) (chunkOf Frame payload ∷ cs) =
-    omega (arith, counted (passed p Frame payload) k cs, length-append (chunkBytes (chunkOf Frame payload)) (chunksBytes (take k cs)), length-chunk Frame payload)
+    let l = length-append (chunkBytes (chunkOf Frame payload)) (chunksBytes (take k cs)) in
+    omega (arith, counted (passed p Frame payload) k cs, length-chunk Frame payload)
 counted p (suc k) (chunkOf Sound payload ∷ cs) =
-    omega (arith, counted (passed p Sound payload) k cs, length-append (chunkBytes (chunkOf Sound payload)) (chunksBytes (take k cs)), length-chunk Sound payload)
+    let l = length-append (chunkBytes (chunkOf Sound payload)) (chunksBytes (take k cs)) in
+    omega (arith, counted (passed p Sound payload) k cs, length-chunk Sound payload)
 
 -- ---- bounds
 

@@ -33,7 +33,8 @@ module _ (file : List ℕ) (w : Walker) (xs : List ℕ) (fits : length file ≤ 
       on Frame e = frame-read file payload ys w (record { within = fits; range = facts; before = xs; cursor = at; is = e }) going small
       on Sound e = sound-read file payload ys w (record { within = fits; range = facts; before = xs; cursor = at; is = e }) going small
 
-  pub read-trailer : w .end ≡ false → w .position .cursor ≡ length xs → file ≡ xs ++ trailerBytes → readOf file w ≡ record { answer = End; walker = atTrailer w }
+  pub read-trailer : w .end ≡ false → w .position .cursor ≡ length xs → file ≡ xs ++ trailerBytes
+      → readOf file w ≡ record { answer = End; walker = atTrailer w }
   read-trailer going at is =
       read-sentences .trailer file [] w (record { within = fits; range = facts; before = xs; cursor = at; is = is }) going
 

@@ -7,14 +7,14 @@ use Rattle.error.specs.Answer.{Answer}
 use Rattle.demuxer.specs.declared.walker.Walker.{Walker}
 use Rattle.muxer.specs.declared.Writer.{Writer}
 use Rattle.recording.specs.Machine.{Call, CallAnswer, call, answers, after}
-use Rattle.recording.specs.Written.{WriteCall, writeStep, kept, acceptedCalls, writerAfter, bufferAfter}
-use Rattle.recording.specs.Lists.{Ran, no-call, one-more, Calling, Lent, Writing, acceptedBy, EveryList}
+use Rattle.recording.specs.WriteLists.{WriteCall, writeStep, kept, acceptedCalls, writerAfter, bufferAfter}
+use Rattle.recording.specs.Lists.{CallsRan, no-call, one-more, Calling, Lent, Writing, acceptedBy, EveryList}
 use Rattle.recording.proofs.Lists.{reads-and-seeks}
 use Rattle.recording.proofs.Writes.{writes}
 
 module _ {S : Type 0} (Stands : S → Walker → Type 0) (Step : S → Call → CallAnswer → S → Type 0) (file table : List ℕ)
     (calling : Calling Stands Step file table) where
-  follows : {s last : S} {calls : List Call} {said : List CallAnswer} (w : Walker) → Stands s w → Ran Step s calls said last
+  follows : {s last : S} {calls : List Call} {said : List CallAnswer} (w : Walker) → Stands s w → CallsRan Step s calls said last
       → (said ≡ answers file table w calls) × Stands last (after file table w calls)
   unfolding answers after
   follows w i no-call = (refl, i)
@@ -26,7 +26,7 @@ module _ {S : Type 0} (Stands : S → Walker → Type 0) (Step : S → Call → 
 module _ {S : Type 0} (Stands : S → Writer → Type 0) (Step : Lent S → WriteCall → Answer Unit → Lent S → Type 0)
     (writing : Writing Stands Step) where
   writes-follow : {s last : Lent S} {calls : List WriteCall} {said : List (Answer Unit)} (w : Writer) → Stands (s .state) w
-      → Ran Step s calls said last
+      → CallsRan Step s calls said last
       → (acceptedBy calls said ≡ acceptedCalls w (s .buffer) calls)
       × (Stands (last .state) (writerAfter w (s .buffer) calls) × (last .buffer ≡ bufferAfter w (s .buffer) calls))
   unfolding acceptedBy acceptedCalls writerAfter bufferAfter
@@ -37,7 +37,7 @@ module _ {S : Type 0} (Stands : S → Writer → Type 0) (Step : Lent S → Writ
       rw (← t .1 .1) ((λ j. kept (t .0 j) c (r .0 j)), r .1)
 
 every-run : {S C A : Type 0} (Step : S → C → A → S → Type 0) → ((s : S) (c : C) → (answer : A) × (next : S) × Step s c answer next)
-    → (s : S) (calls : List C) → (said : List A) × (last : S) × Ran Step s calls said last
+    → (s : S) (calls : List C) → (said : List A) × (last : S) × CallsRan Step s calls said last
 every-run Step step s [] = ([], s, no-call)
 every-run Step step s (c ∷ calls) =
     let t = step s c in

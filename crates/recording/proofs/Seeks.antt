@@ -119,7 +119,8 @@ all-good place p (chunkOf kind payload ∷ cs) y h =
     let l = length-append (chunkBytes (chunkOf kind payload)) (chunksBytes cs) in
     let m = length-chunk kind payload in
     let t = stepped p kind payload (bytes-payload kind payload _ y) in
-    rw (good-mark p kind (omega arith)) (all-good (place + entryLen) (passed p kind payload) cs (bytes-right (chunkBytes (chunkOf kind payload)) _ y) (omega arith))
+    rw (good-mark p kind (omega arith))
+    (all-good (place + entryLen) (passed p kind payload) cs (bytes-right (chunkBytes (chunkOf kind payload)) _ y) (omega arith))
 
 -- ---- the position that a seek to the end leaves is in range
 

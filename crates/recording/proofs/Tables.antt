@@ -2,7 +2,7 @@
 use mathlib.Core.Path.{_≡_, refl, sym, ap, ap₂, _∙_}
 use mathlib.Core.Bool.{Bool, true, false}
 use mathlib.Core.List.{List, [], _∷_, _++_, append-assoc, append-nil}
-use Prim.Native.Nat.{ℕ, _+_, _*_, _/_, _^_, _<_, min}
+use Prim.Native.Nat.{ℕ, _+_, _*_, _/_, _^_, _≤_, _<_, min}
 use native.Mathlib.Nat.{add-zero}
 use native.Mathlib.Omega.{arith}
 use borrow.Author.Tests.{le-leb}
@@ -19,13 +19,13 @@ use Rattle.fields.specs.Le.{Bytes, put}
 use Rattle.fields.proofs.Laws.{bytes-right}
 use Rattle.demuxer.specs.Position.{start}
 use Rattle.demuxer.specs.declared.position.Position.{Position}
-use Rattle.walk.specs.Walk.{walk, past}
+use Rattle.walk.specs.Walk.{walk, past, fileWalk}
 use Rattle.walk.specs.declared.Kind.{Kind}
 use Rattle.walk.specs.declared.Kind.the-variants.{Frame, Sound}
 use Rattle.walk.specs.Chunks.{Chunk, chunkOf, chunkBytes, chunksBytes, walkOf}
-use Rattle.chunk_index.specs.Entry.{entryLen, entry, entryBytes, Small, tableBytes, entriesFrom, entriesOf}
+use Rattle.chunk_index.specs.Entry.{entryLen, entry, entryBytes, tableBytes, entriesFrom, entriesOf}
+use Rattle.chunk_index.specs.Steps.{Small}
 use Rattle.chunk_index.specs.Index.{Built, builtFrom, buildOf, recorded, records, tagsKnown, indexOf}
-use Rattle.walk.specs.Walk.{fileWalk}
 use Rattle.chunk_index.specs.declared.entry.ChunkIndexEntry.{ChunkIndexEntry}
 use Rattle.walk.proofs.Chunked.{tag-held, chunks-walked}
 use Rattle.chunk_index.proofs.Entries.{entry-back, length-entryBytes, length-table}
@@ -105,7 +105,11 @@ marks-fit p (chunkOf kind payload ∷ cs) y a b c d =
     let l = length-append (chunkBytes (chunkOf kind payload)) (chunksBytes cs) in
     let m = length-chunk kind payload in
     let t : Bounded p (passed p kind payload) (8 + length payload) = stepped p kind payload (bytes-payload kind payload _ y) in (
-      record { tag-fits = tag-held kind; small = record { cursor-small = omega arith; frames-small = omega arith; blocks-small = omega arith }; samples-fit = omega arith },
+      record {
+        tag-fits = tag-held kind;
+        small = record { cursor-small = omega arith; frames-small = omega arith; blocks-small = omega arith };
+        samples-fit = omega arith;
+      },
       marks-fit (passed p kind payload) cs (bytes-right (chunkBytes (chunkOf kind payload)) _ y) (omega arith) (omega arith) (omega arith) (omega arith),
     )
 

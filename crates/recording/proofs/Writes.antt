@@ -22,20 +22,21 @@ use Rattle.duration.specs.declared.AmvDuration.{AmvDuration}
 use Rattle.prelude.specs.Built.{preludeBytes}
 use Rattle.prelude.specs.Prelude.{strictOf}
 use Rattle.prelude.proofs.BuiltLaws.{length-prelude, patched, strict-built}
-use Rattle.walk.specs.Walk.{Walk, walk, fileWalk}
+use Rattle.walk.specs.Walk.{Walk}
 use Rattle.walk.specs.Walk as walks
 use Rattle.walk.specs.declared.Kind.{Kind}
 use Rattle.walk.specs.declared.Kind.the-variants.{Frame, Sound}
 use Rattle.walk.specs.Chunks.{Chunk, chunkOf, chunkBytes, chunksBytes, Lengths, walkOf}
-use Rattle.muxer.specs.Writer.{fresh, Outcome, packetBytes, patchRunLength, headerQuestions, headerCall, packetCall, trailerCall}
-use Rattle.muxer.specs.Writer as muxer
+use Rattle.muxer.specs.Writer.{fresh, WriteOutcome, packetBytes, patchRunLength, headerQuestions, headerCall, packetCall, trailerCall}
 use Rattle.muxer.specs.declared.Settings.{Settings}
 use Rattle.muxer.specs.declared.Writer.{Writer}
 use Rattle.muxer.proofs.Steps.{Open, HeaderPassed, header-passed}
-use Rattle.muxer.proofs.Writes.{fileOf, preludeFor, outcome-accepted, header-refused, header-accepted, packet-refused, packet-accepted, trailer-refused, trailer-accepted}
+use Rattle.muxer.proofs.Writes.{fileOf, preludeFor, outcome-accepted, header-refused, header-accepted}
+use Rattle.muxer.proofs.Writes.{packet-refused, packet-accepted, trailer-refused, trailer-accepted}
 use Rattle.recording.specs.Drain.{drain, drainFrom}
 use Rattle.recording.specs.Grammar.{Passes, Finished}
-use Rattle.recording.specs.Written.{WriteCall, header, packet, trailer, writeStep, kept, acceptedCalls, writerAfter, bufferAfter, writtenFile, Sent, sentBy, sentIn, Held, Completed, Drains, Writes}
+use Rattle.recording.specs.WriteLists.{WriteCall, header, packet, trailer, writeStep, kept, acceptedCalls, writerAfter, bufferAfter, writtenFile}
+use Rattle.recording.specs.WriteLists.{Sent, sentBy, sentIn, Held, Completed, Drains, WritesDrain}
 use Rattle.recording.proofs.Checks.{finished-walk}
 
 -- ---- the run length fits its field
@@ -205,12 +206,12 @@ module _ (s : Settings) (held : Held s) (fps-positive : 0 < s .fps) (one-channel
 
   -- ---- one call
 
-  data Turn (w : Writer) (buf : List ℕ) (cs : List Chunk) (c : WriteCall) (o : Outcome) : Type 0 where
+  data Turn (w : Writer) (buf : List ℕ) (cs : List Chunk) (c : WriteCall) (o : WriteOutcome) : Type 0 where
     stays : (r : Refusal) → o ≡ record { answer = refused r; writer = w; buffer = buf } → Turn w buf cs c o
     moves : w .ended ≡ false → o .answer ≡ accepted tt → State (o .writer) (o .buffer) (cs ++ chunksFor c)
         → sentOf (chunksFor c) ≡ sentBy (c ∷ []) → (c ≡ trailer → o .writer .ended ≡ true) → Turn w buf cs c o
 
-  refuses : (w : Writer) (buf : List ℕ) (cs : List Chunk) (c : WriteCall) (o : Outcome) (r : Refusal) → o .answer ≡ refused r
+  refuses : (w : Writer) (buf : List ℕ) (cs : List Chunk) (c : WriteCall) (o : WriteOutcome) (r : Refusal) → o .answer ≡ refused r
       → (o .writer ≡ w) × (o .buffer ≡ buf) → Turn w buf cs c o
   refuses w buf cs c o r e k = stays r (λ i. record { answer = e i; writer = k .0 i; buffer = k .1 i })
 
@@ -303,7 +304,7 @@ module _ (s : Settings) (held : Held s) (fps-positive : 0 < s .fps) (one-channel
   -- ---- a list of calls
 
   -- more chunks, which send what the accepted calls do
-  record Left (cs : List Chunk) (file : List ℕ) (calls : List WriteCall) : Type 0 where
+  record FileLeft (cs : List Chunk) (file : List ℕ) (calls : List WriteCall) : Type 0 where
     chunks : List Chunk
     finished : Finished file (cs ++ chunks)
     sends : sentOf chunks ≡ sentBy calls
@@ -312,7 +313,7 @@ module _ (s : Settings) (held : Held s) (fps-positive : 0 < s .fps) (one-channel
   Ends w buf calls = List·Memᴰ trailer (acceptedCalls w buf calls) ⊎ (w .ended ≡ true)
 
   left-on : (cs : List Chunk) (file : List ℕ) (c : WriteCall) (calls : List WriteCall) → sentOf (chunksFor c) ≡ sentBy (c ∷ [])
-      → Left (cs ++ chunksFor c) file calls → Left cs file (c ∷ calls)
+      → FileLeft (cs ++ chunksFor c) file calls → FileLeft cs file (c ∷ calls)
   left-on cs file c calls e l =
       record {
         chunks = chunksFor c ++ l .chunks;
@@ -323,10 +324,10 @@ module _ (s : Settings) (held : Held s) (fps-positive : 0 < s .fps) (one-channel
             ∙ sym (sent-cons c calls);
       }
 
-  one-on : (w : Writer) (buf : List ℕ) (cs : List Chunk) (c : WriteCall) (calls : List WriteCall) (o : Outcome) → State w buf cs → Turn w buf cs c o
+  one-on : (w : Writer) (buf : List ℕ) (cs : List Chunk) (c : WriteCall) (calls : List WriteCall) (o : WriteOutcome) → State w buf cs → Turn w buf cs c o
       → (List·Memᴰ trailer (kept (o .answer) c (acceptedCalls (o .writer) (o .buffer) calls)) ⊎ (w .ended ≡ true))
-      → ((v : Writer) (b : List ℕ) (ds : List Chunk) → State v b ds → Ends v b calls → Left ds (writtenFile v b calls) (acceptedCalls v b calls))
-      → Left cs (writtenFile (o .writer) (o .buffer) calls) (kept (o .answer) c (acceptedCalls (o .writer) (o .buffer) calls))
+      → ((v : Writer) (b : List ℕ) (ds : List Chunk) → State v b ds → Ends v b calls → FileLeft ds (writtenFile v b calls) (acceptedCalls v b calls))
+      → FileLeft cs (writtenFile (o .writer) (o .buffer) calls) (kept (o .answer) c (acceptedCalls (o .writer) (o .buffer) calls))
   one-on w buf cs c calls o i (stays r e) m ih = rw e (ih w buf cs i (rw e at m))
   one-on w buf cs c calls o i (moves n e j q f) (inr m) ih = false-true m n
   one-on w buf cs c calls o i (moves n e j q f) (inl m) ih =
@@ -336,7 +337,7 @@ module _ (s : Settings) (held : Held s) (fps-positive : 0 < s .fps) (one-channel
       rw e (left-on cs (writtenFile (o .writer) (o .buffer) calls) c l q (ih (o .writer) (o .buffer) (cs ++ chunksFor c) j h))
 
   run : (w : Writer) (buf : List ℕ) (cs : List Chunk) (calls : List WriteCall) → State w buf cs → Ends w buf calls
-      → Left cs (writtenFile w buf calls) (acceptedCalls w buf calls)
+      → FileLeft cs (writtenFile w buf calls) (acceptedCalls w buf calls)
   unfolding writerAfter bufferAfter acceptedCalls
   run w buf cs [] i (inl m) = absurd (List·Memᴰ·not-nil m)
   run w buf cs [] i (inr e) = record { chunks = []; finished = rw append-nil (is-over w buf cs i e); sends = unfold sentBy in refl }
@@ -367,7 +368,7 @@ pub one-list : (file : List ℕ) (cs ds : List Chunk) → Finished file cs → F
 one-list file cs ds f g =
     sym (chunks-walked cs 0) ∙ ap chunksIn (sym (finished-walk file cs f) ∙ finished-walk file ds g) ∙ chunks-walked ds 0
 
-pub writes : Writes
+pub writes : WritesDrain
 writes s buf calls held =
     record {
       finish = λ k. written s buf calls (record { held = held; closed = k });

@@ -11,9 +11,9 @@ use Rattle.demuxer.specs.Read.{saidNext, saidRead, readOf}
 use Rattle.demuxer.specs.Read as demuxer
 use Rattle.demuxer.specs.declared.walker.Read.{Read}
 use Rattle.demuxer.specs.declared.walker.Walker.{Walker}
-use Rattle.seek.specs.Seek.{saidSeek, saidSought, seekOf}
-use Rattle.seek.specs.declared.Sought.{Sought}
-use Rattle.muxer.specs.Writer.{Meets}
+use Rattle.seek.specs.Seek.{saidSeek, saidSeekOutcome, seekOf}
+use Rattle.seek.specs.declared.SeekOutcome.{SeekOutcome}
+use Rattle.muxer.specs.Writer.{MeetsOutcome}
 use Rattle.muxer.specs.Writer as muxer
 use Rattle.muxer.specs.declared.Settings.{Settings}
 use Rattle.muxer.specs.declared.Writer.{Writer}
@@ -21,26 +21,26 @@ use Rattle.muxer.specs.declared.Wrote.{Wrote}
 use Rattle.walk.specs.Chunks.{Chunk}
 use Rattle.recording.specs.Grammar.{Finished}
 use Rattle.recording.specs.Machine.{Call, read, seek, CallAnswer, readAnswer, seekAnswer, Agreed, OwnIndex}
-use Rattle.recording.specs.Written.{WriteCall, writeStep, Held, WritesAgreed}
-use Rattle.recording.specs.Lists.{Ran, Lent, acceptedBy}
+use Rattle.recording.specs.WriteLists.{WriteCall, writeStep, Held, WritesAgreed}
+use Rattle.recording.specs.Lists.{CallsRan, Lent, acceptedBy}
 
 -- `next_packet` and `seek_to_via_index`
 pub data WalkerStep (file table : List ℕ) : Walker → Call → CallAnswer → Walker → Type 0 where
   reads : {w : Walker} (r : Read) → saidRead file r ≡ readOf file w
       → WalkerStep file table w read (readAnswer (saidNext file (r .answer))) (r .walker)
-  seeks : {w : Walker} {stream : ℕ} {request : ℤ} (r : Sought) → saidSought r ≡ seekOf table w stream request
+  seeks : {w : Walker} {stream : ℕ} {request : ℤ} (r : SeekOutcome) → saidSeekOutcome r ≡ seekOf table w stream request
       → WalkerStep file table w (seek stream request) (seekAnswer (saidSeek (r .result))) (r .walker)
 
 -- `write_header`, `write_packet` and `write_trailer`
 pub data WriterStep : Lent Writer → WriteCall → Answer Unit → Lent Writer → Type 0 where
-  writes : {s : Lent Writer} {c : WriteCall} (r : Wrote) (after : List ℕ) → Meets (writeStep (s .state) (s .buffer) c) r after
+  writes : {s : Lent Writer} {c : WriteCall} (r : Wrote) (after : List ℕ) → MeetsOutcome (writeStep (s .state) (s .buffer) c) r after
       → WriterStep s c (said (r .result)) (record { state = r .writer; buffer = after })
 
 -- Demand 3 of these calls, from fresh states
 pub record ByValue : Type 0 where
   pub reads-and-seeks : (file : List ℕ) (cs : List Chunk) → Bytes file → Finished file cs → (table : List ℕ) → OwnIndex file table
-      → (calls : List Call) (said : List CallAnswer) (last : Walker) → Ran (WalkerStep file table) demuxer.fresh calls said last
+      → (calls : List Call) (said : List CallAnswer) (last : Walker) → CallsRan (WalkerStep file table) demuxer.fresh calls said last
       → Agreed file cs calls last said
   pub writes : (s : Settings) → Held s → (buf : List ℕ) (calls : List WriteCall) (said : List (Answer Unit)) (last : Lent Writer)
-      → Ran WriterStep (record { state = muxer.fresh s; buffer = buf }) calls said last
+      → CallsRan WriterStep (record { state = muxer.fresh s; buffer = buf }) calls said last
       → WritesAgreed s (take (last .state .written) (last .buffer)) (acceptedBy calls said)

@@ -3,7 +3,7 @@ use Prim.Native.Nat.{ℕ, suc, _+_}
 use mathlib.Core.List.{List, [], _∷_}
 use mathlib.Core.Option.{some}
 use Rattle.demuxer.specs.Head.{countOf}
-use Rattle.demuxer.specs.Packet.{Shown, durationOf, ticks}
+use Rattle.demuxer.specs.Packet.{Shown, packetDuration, ticks}
 use Rattle.walk.specs.Chunks.{Chunk, chunkOf}
 use Rattle.walk.specs.declared.Kind.the-variants.{Frame, Sound}
 
@@ -14,7 +14,7 @@ drainFrom frames samples [] = []
 drainFrom frames samples (chunkOf Frame payload ∷ cs) =
     record { stream = 0; payload = payload; stamp = frames; duration = some 1 } ∷ drainFrom (frames + 1) samples cs
 drainFrom frames samples (chunkOf Sound payload ∷ cs) =
-    record { stream = 1; payload = payload; stamp = samples; duration = ticks (durationOf (countOf payload)) }
+    record { stream = 1; payload = payload; stamp = samples; duration = ticks (packetDuration (countOf payload)) }
     ∷ drainFrom frames (samples + countOf payload) cs
 
 abbrev pub drain : List Chunk → List Shown

@@ -2,7 +2,7 @@ pub mod Grammar
 pub mod Drain
 pub mod Machine
 pub mod Check
-pub mod Written
+pub mod WriteLists
 pub mod Lists
 pub mod ByValue
 pub mod Together

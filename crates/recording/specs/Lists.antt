@@ -14,14 +14,14 @@ use Rattle.muxer.specs.declared.Writer.{Writer}
 use Rattle.walk.specs.Chunks.{Chunk}
 use Rattle.recording.specs.Grammar.{Finished}
 use Rattle.recording.specs.Machine.{Call, CallAnswer, call, Agreed, OwnIndex}
-use Rattle.recording.specs.Written.{WriteCall, writeStep, kept, Held, WritesAgreed}
+use Rattle.recording.specs.WriteLists.{WriteCall, writeStep, kept, Held, WritesAgreed}
 
 -- "each call gets the walker that the last one returned": calls, what each answered, and the state that the last one left; a step says
 -- what one call may answer and leave
-pub data Ran {S C A : Type 0} (Step : S → C → A → S → Type 0) : S → List C → List A → S → Type 0 where
-  no-call : {s : S} → Ran Step s [] [] s
+pub data CallsRan {S C A : Type 0} (Step : S → C → A → S → Type 0) : S → List C → List A → S → Type 0 where
+  no-call : {s : S} → CallsRan Step s [] [] s
   one-more : {s next last : S} {c : C} {answer : A} {calls : List C} {said : List A}
-      → Step s c answer next → Ran Step next calls said last → Ran Step s (c ∷ calls) (answer ∷ said) last
+      → Step s c answer next → CallsRan Step next calls said last → CallsRan Step s (c ∷ calls) (answer ∷ said) last
 
 -- a step is 01's call: on a state that stands for a walker it answers what the call does, and leaves a state that stands for its walker
 abbrev pub Calling : {S : Type 0} → (S → Walker → Type 0) → (S → Call → CallAnswer → S → Type 0) → List ℕ → List ℕ → Type 0
@@ -52,13 +52,13 @@ pub record EveryList : Type 1 where
   pub reads-and-seeks : {S : Type 0} (Stands : S → Walker → Type 0) (Step : S → Call → CallAnswer → S → Type 0)
       → (file : List ℕ) (cs : List Chunk) → Bytes file → Finished file cs → (table : List ℕ) → OwnIndex file table
       → Calling Stands Step file table
-      → (s : S) (calls : List Call) (said : List CallAnswer) (last : S) → Stands s demuxer.fresh → Ran Step s calls said last
+      → (s : S) (calls : List Call) (said : List CallAnswer) (last : S) → Stands s demuxer.fresh → CallsRan Step s calls said last
       → (w : Walker) × (Stands last w × Agreed file cs calls w said)
   pub writes : {S : Type 0} (Stands : S → Writer → Type 0) (Step : Lent S → WriteCall → Answer Unit → Lent S → Type 0) → Writing Stands Step
       → (settings : Settings) → Held settings
       → (s : Lent S) (calls : List WriteCall) (said : List (Answer Unit)) (last : Lent S) → Stands (s .state) (muxer.fresh settings)
-      → Ran Step s calls said last
+      → CallsRan Step s calls said last
       → (w : Writer) × (Stands (last .state) w × WritesAgreed settings (take (w .written) (last .buffer)) (acceptedBy calls said))
   -- where each call has an answer, each list runs
   pub runs : {S C A : Type 0} (Step : S → C → A → S → Type 0) → ((s : S) (c : C) → (answer : A) × (next : S) × Step s c answer next)
-      → (s : S) (calls : List C) → (said : List A) × (last : S) × Ran Step s calls said last
+      → (s : S) (calls : List C) → (said : List A) × (last : S) × CallsRan Step s calls said last

@@ -28,15 +28,15 @@ pub data Call : Type 0 where
   seek : ℕ → ℤ → Call
 
 -- what it says of a call: a read gives a packet or End; a seek goes to a chunk, with its stamp, or to the end; or it is refused
-pub data Says : Type 0 where
-  gives : Shown → Says
-  ends : Says
-  goes : ℕ → Says
-  goesToEnd : Says
-  refuses : Says
+pub data MachineAnswer : Type 0 where
+  gives : Shown → MachineAnswer
+  ends : MachineAnswer
+  goes : ℕ → MachineAnswer
+  goesToEnd : MachineAnswer
+  refuses : MachineAnswer
 
 pub record MachineStep : Type 0 where
-  pub says : Says
+  pub says : MachineAnswer
   pub place : ℕ
 
 -- "Its state is a position among the chunks or the end": a number, the end being the number of chunks.
@@ -60,7 +60,7 @@ machineStep ps k read = onRead k (getElem? ps k)
 machineStep ps k (seek stream request) =
     cond (leb stream 1) (onSeek (first stream request ps) (getElem? ps (first stream request ps))) (record { says = refuses; place = k })
 
-unfoldable pub machineSays : List Shown → ℕ → List Call → List Says
+unfoldable pub machineSays : List Shown → ℕ → List Call → List MachineAnswer
 machineSays ps k [] = []
 machineSays ps k (c ∷ cs) = machineStep ps k c .says ∷ machineSays ps (machineStep ps k c .place) cs
 
@@ -73,11 +73,11 @@ pub data CallAnswer : Type 0 where
   readAnswer : ReadAnswer → CallAnswer
   seekAnswer : Answer ℕ → CallAnswer
 
-pub record Called : Type 0 where
+pub record CallOutcome : Type 0 where
   pub answer : CallAnswer
   pub walker : Walker
 
-unfoldable pub call : List ℕ → List ℕ → Walker → Call → Called
+unfoldable pub call : List ℕ → List ℕ → Walker → Call → CallOutcome
 call file table w read = record { answer = readAnswer (readOf file w .answer); walker = readOf file w .walker }
 call file table w (seek stream request) =
     record { answer = seekAnswer (seekOf table w stream request .answer); walker = seekOf table w stream request .walker }
@@ -92,23 +92,24 @@ after file table w (c ∷ cs) = after file table (call file table w c .walker) c
 
 -- "Compared: each read's answer .. ; the stamp returned by a seek that goes to a chunk .. ; the refusals, which are 42 for those seeks
 -- and no others": a seek to the end is accepted with some stamp
-abbrev pub Agrees : Says → CallAnswer → Type 0
+abbrev pub Agrees : MachineAnswer → CallAnswer → Type 0
 Agrees (gives p) a = a ≡ readAnswer (packet p)
 Agrees ends a = a ≡ readAnswer End
 Agrees (goes stamp) a = a ≡ seekAnswer (accepted stamp)
 Agrees goesToEnd a = (stamp : ℕ) × (a ≡ seekAnswer (accepted stamp))
 Agrees refuses a = a ≡ seekAnswer (refused (numbered 42 0))
 
-abbrev pub AllAgree : List Says → List CallAnswer → Type 0
+abbrev pub AllAgree : List MachineAnswer → List CallAnswer → Type 0
 AllAgree [] [] = Unit
 AllAgree [] (a ∷ rest) = ⊥
 AllAgree (s ∷ ss) [] = ⊥
 AllAgree (s ∷ ss) (a ∷ rest) = Agrees s a × AllAgree ss rest
 
 -- "the packets left (those that reads alone then give until the first End), with stream, payload, stamp and duration"
-pub data Left (file : List ℕ) : Walker → List Shown → Type 0 where
-  none-left : {w : Walker} → readOf file w .answer ≡ End → Left file w []
-  one-more : {w : Walker} {p : Shown} {ps : List Shown} → readOf file w .answer ≡ packet p → Left file (readOf file w .walker) ps → Left file w (p ∷ ps)
+pub data PacketsLeft (file : List ℕ) : Walker → List Shown → Type 0 where
+  none-left : {w : Walker} → readOf file w .answer ≡ End → PacketsLeft file w []
+  one-more : {w : Walker} {p : Shown} {ps : List Shown} → readOf file w .answer ≡ packet p
+      → PacketsLeft file (readOf file w .walker) ps → PacketsLeft file w (p ∷ ps)
 
 -- "at a chunk also the cursor and the three counts, which are that chunk's offset and the frames, samples and blocks before it"
 pub record AtChunk (cs : List Chunk) (k : ℕ) (w : Walker) : Type 0 where
@@ -120,7 +121,7 @@ pub record AtChunk (cs : List Chunk) (k : ℕ) (w : Walker) : Type 0 where
 -- all that 01 compares, for one list of calls: of the answers that they gave, and of the walker that the last one left
 pub record Agreed (file : List ℕ) (cs : List Chunk) (calls : List Call) (w : Walker) (said : List CallAnswer) : Type 0 where
   pub agree : AllAgree (machineSays (drain cs) 0 calls) said
-  pub left : Left file w (drop (machineAfter (drain cs) 0 calls) (drain cs))
+  pub left : PacketsLeft file w (drop (machineAfter (drain cs) 0 calls) (drain cs))
   pub stands : machineAfter (drain cs) 0 calls < length cs → AtChunk cs (machineAfter (drain cs) 0 calls) w
 
 -- of the calls themselves, from a fresh walker
@@ -135,7 +136,9 @@ pub record OwnIndex (file table : List ℕ) : Type 0 where
 
 -- Demand 3 for reads and seeks: ONE claim about every list, for every finished recording and its own index
 abbrev pub ReadsAndSeeks : Type 0
-ReadsAndSeeks = (file : List ℕ) (cs : List Chunk) → Bytes file → Finished file cs → (table : List ℕ) → OwnIndex file table → (calls : List Call) → Agreement file cs table calls
+ReadsAndSeeks =
+    (file : List ℕ) (cs : List Chunk) → Bytes file → Finished file cs → (table : List ℕ) → OwnIndex file table
+    → (calls : List Call) → Agreement file cs table calls
 
 -- and every finished recording has an index
 abbrev pub HasIndex : Type 0

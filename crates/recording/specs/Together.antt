@@ -6,7 +6,7 @@ use Rattle.error.specs.Answer.{accepted}
 use Rattle.muxer.specs.Writer.{fresh}
 use Rattle.muxer.specs.declared.Settings.{Settings}
 use Rattle.finished.specs.Check.{checkOf}
-use Rattle.recording.specs.Written.{WriteCall, Completed, writtenFile}
+use Rattle.recording.specs.WriteLists.{WriteCall, Completed, writtenFile}
 use Rattle.finished.specs.declared.Totals.{Totals}
 
 -- 01: "a check that refuses all (3, by the writer)": the check accepts every file that a completed list of calls writes

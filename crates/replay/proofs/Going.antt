@@ -8,7 +8,7 @@ use lib.ListN.{length}
 use Rattle.fields.specs.Le.{Bytes, put}
 use Rattle.demuxer.specs.Read.{fresh}
 use Rattle.demuxer.specs.declared.walker.Walker.{Walker}
-use Rattle.chunk_index.specs.Chunks.{Chunk}
+use Rattle.walk.specs.Chunks.{Chunk}
 use Rattle.recording.specs.Grammar.{Finished}
 use Rattle.recording.specs.Machine.{Call, answers, after, call, Agreed, OwnIndex}
 use Rattle.recording.proofs.Lists.{reads-and-seeks}
@@ -20,11 +20,11 @@ use Rattle.replay.specs.declared.CallResult.{CallResult}
 use Rattle.replay.specs.declared.Row.{Row}
 
 -- the rows of a list of calls say its answers
-abbrev Says : List ℕ → List ℕ → Walker → List Call → Type 0
-Says file table w calls = answersBy file (rowsOf (step file table) w calls) ≡ answers file table w calls
+abbrev RowsSay : List ℕ → List ℕ → Walker → List Call → Type 0
+RowsSay file table w calls = answersBy file (rowsOf (step file table) w calls) ≡ answers file table w calls
 
 says-one : (file table : List ℕ) (w : Walker) (c : Call) (cs : List Call) {r : CallResult} → Answered file table w c r
-    → Says file table (call file table w c .walker) cs → Says file table w (c ∷ cs)
+    → RowsSay file table (call file table w c .walker) cs → RowsSay file table w (c ∷ cs)
 unfolding answers rowsOf answersBy
 says-one file table w c cs a s =
     λ i. (ap (rowAnswer file) (sym (a .row-is)) ∙ a .said-is) i ∷ s i
@@ -41,12 +41,12 @@ module _ (file table kinds streams : List ℕ) (requests : List ℤ) (n : ℕ) (
   -- before call i of n: besides, all rows say their answers if those of the calls left do
   pub record Replaying (w : Walker) (rows : List ℕ) (i at : ℕ) : Type 0 where
     pub going : Going (step file table) 6 (callAt kinds streams requests) n fresh before w rows i at
-    pub says : Says file table w (calls i (n - i)) → Says file table fresh (calls 0 n)
+    pub says : RowsSay file table w (calls i (n - i)) → RowsSay file table fresh (calls 0 n)
 
   pub replaying-first : n * 6 ≤ length before → length before < 18446744073709551616 → Replaying fresh before 0 0
   replaying-first h f =
       let z : n - 0 ≡ n = omega arith in
-      record { going = going-first _ _ _ _ _ _ h f; says = λ s. subst (λ (k : ℕ). Says file table fresh (calls 0 k)) z s }
+      record { going = going-first _ _ _ _ _ _ h f; says = λ s. subst (λ (k : ℕ). RowsSay file table fresh (calls 0 k)) z s }
 
   pub replaying-on : {w : Walker} {rows : List ℕ} {i at : ℕ} → Replaying w rows i at → i < n → (r : CallResult)
       → Answered file table w (callAt kinds streams requests i) r → {more : List ℕ} → more ≡ put rows at (rowWords (r .row))
@@ -59,8 +59,8 @@ module _ (file table kinds streams : List ℕ) (requests : List ℤ) (n : ℕ) (
         going =
             going-on _ _ _ _ _ _ (λ v d. refl) (g .going) l (r .walker) (a .walker-is) (p ∙ ap (λ (x : Row). put rows at (rowWords x)) (a .row-is));
         says =
-            λ s. g .says (subst (λ (k : ℕ). Says file table w (calls i k)) z
-            (says-one file table w c _ a (subst (λ (v : Walker). Says file table v (calls (i + 1) (n - (i + 1)))) (a .walker-is) s)));
+            λ s. g .says (subst (λ (k : ℕ). RowsSay file table w (calls i k)) z
+            (says-one file table w c _ a (subst (λ (v : Walker). RowsSay file table v (calls (i + 1) (n - (i + 1)))) (a .walker-is) s)));
       }
 
   pub replaying-last : {w : Walker} {rows : List ℕ} {i at : ℕ} → Replaying w rows i at → n ≤ i → Run file table (calls 0 n) n before w rows
@@ -74,7 +74,7 @@ module _ (file table kinds streams : List ℕ) (requests : List ℤ) (n : ℕ) (
         said-are =
             ap (λ (l : List ℕ). answersIn file l n) rows-are
             ∙ ap (answersBy file) (rows-back (step file table) 6 (λ v d. refl) (callAt kinds streams requests) n fresh before)
-            ∙ g .says (subst (λ (k : ℕ). Says file table w (calls i k)) z refl);
+            ∙ g .says (subst (λ (k : ℕ). RowsSay file table w (calls i k)) z refl);
         rows-are = rows-are;
       }
 

@@ -19,8 +19,8 @@ use Rattle.demuxer.specs.declared.walker.NextPacket.the-variants as next
 use Rattle.demuxer.specs.declared.packet.Packet.{Packet}
 use Rattle.demuxer.specs.declared.packet.PacketDuration.{PacketDuration}
 use Rattle.demuxer.specs.declared.packet.PacketDuration.the-variants.{Ticks, None}
-use Rattle.seek.specs.Seek.{saidSeek, saidSought, seekOf}
-use Rattle.seek.specs.declared.Sought.{Sought}
+use Rattle.seek.specs.Seek.{saidSeek, saidSeekOutcome, seekOf}
+use Rattle.seek.specs.declared.SeekOutcome.{SeekOutcome}
 use Rattle.recording.specs.Machine.{readAnswer, seekAnswer, call}
 use Rattle.replay.specs.Replay.{callOf, rowWords, rowAnswer, packetRow, readRow, soughtRow}
 use Rattle.replay.specs.Steps.{nextRow, Answered}
@@ -66,7 +66,7 @@ module _ (file table : List ℕ) (w : Walker) (kind stream : ℕ) (request : ℤ
         walker-is = ap (λ q. q .walker) e;
       })
 
-  pub seek-called : (r : Sought) → (kind ≡ 0 → ⊥) → saidSought r ≡ seekOf table w stream request → row ≡ soughtRow (saidSeek (r .result))
+  pub seek-called : (r : SeekOutcome) → (kind ≡ 0 → ⊥) → saidSeekOutcome r ≡ seekOf table w stream request → row ≡ soughtRow (saidSeek (r .result))
       → Answered file table w (callOf kind stream request) (record { row = row; walker = r .walker })
   unfolding call
   seek-called r k e is =

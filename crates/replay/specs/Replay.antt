@@ -15,7 +15,7 @@ use Rattle.demuxer.specs.Read as read-answer
 use Rattle.demuxer.specs.declared.walker.Walker.{Walker}
 use Rattle.demuxer.specs.declared.packet.PacketDuration.{PacketDuration}
 use Rattle.demuxer.specs.declared.packet.PacketDuration.the-variants.{Ticks, None}
-use Rattle.chunk_index.specs.Chunks.{Chunk}
+use Rattle.walk.specs.Chunks.{Chunk}
 use Rattle.recording.specs.Grammar.{Finished}
 use Rattle.recording.specs.Machine.{Call, read, seek, CallAnswer, readAnswer, seekAnswer, call, answers, after, Agreed, OwnIndex}
 use Rattle.rows.specs.Rows.{oneLength, callsFrom, Step, rowsOf, numbers, rowsIn}

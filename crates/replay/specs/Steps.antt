@@ -1,4 +1,4 @@
--- Steps on the way: what private functions promise each other. Nothing here need be believed. Assumes nothing.
+-- Steps on the way: what functions below the calls promise each other. Nothing here need be believed. Assumes nothing.
 use mathlib.Core.Path.{_≡_}
 use Prim.Native.Nat.{ℕ}
 use mathlib.Core.List.{List}

@@ -6,12 +6,12 @@ use borrow.Author.Tests.{eq-eqb, ne-eqb}
 use lib.ListN.{length}
 use Rattle.error.specs.Refusal.{said}
 use Rattle.fields.specs.Le.{put}
-use Rattle.muxer.specs.Writer.{fresh, Meets, headerCall, packetCall, trailerCall}
+use Rattle.muxer.specs.Writer.{fresh, MeetsOutcome, headerCall, packetCall, trailerCall}
 use Rattle.muxer.specs.declared.Settings.{Settings}
 use Rattle.muxer.specs.declared.Writer.{Writer}
 use Rattle.muxer.specs.declared.Wrote.{Wrote}
 use Rattle.muxer.proofs.Writes.{header-length, packet-length, trailer-length}
-use Rattle.recording.specs.Written.{WriteCall, header, packet, trailer, writeStep, writerAfter, bufferAfter}
+use Rattle.recording.specs.WriteLists.{WriteCall, header, packet, trailer, writeStep, writerAfter, bufferAfter}
 use Rattle.rows.specs.Rows.{callsFrom, rowsOf, stateAfter, numbers}
 use Rattle.rows.proofs.Laws.{Going, going-on, last-state, last-rows}
 use Rattle.replay_writes.specs.Replay.{Lists, callOf, callAt, verdict, State, step, Run}
@@ -19,17 +19,17 @@ use Rattle.replay_writes.specs.Replay.{Lists, callOf, callAt, verdict, S
 -- ---- one call, by its kind
 
 pub header-step : (w : Writer) (buf payload : List ℕ) (kind stream : ℕ) {r : Wrote} {after : List ℕ} → kind ≡ 0
-    → Meets (headerCall w buf) r after → Meets (writeStep w buf (callOf kind stream payload)) r after
+    → MeetsOutcome (headerCall w buf) r after → MeetsOutcome (writeStep w buf (callOf kind stream payload)) r after
 unfolding writeStep
 header-step w buf payload kind stream k m = rw (eq-eqb _ _ k) m
 
 pub packet-step : (w : Writer) (buf payload : List ℕ) (kind stream : ℕ) {r : Wrote} {after : List ℕ} → (kind ≡ 0 → ⊥) → kind ≡ 1
-    → Meets (packetCall w payload stream buf) r after → Meets (writeStep w buf (callOf kind stream payload)) r after
+    → MeetsOutcome (packetCall w payload stream buf) r after → MeetsOutcome (writeStep w buf (callOf kind stream payload)) r after
 unfolding writeStep
 packet-step w buf payload kind stream n k m = rw (ne-eqb _ _ n, eq-eqb _ _ k) m
 
 pub trailer-step : (w : Writer) (buf payload : List ℕ) (kind stream : ℕ) {r : Wrote} {after : List ℕ} → (kind ≡ 0 → ⊥) → (kind ≡ 1 → ⊥)
-    → Meets (trailerCall w buf) r after → Meets (writeStep w buf (callOf kind stream payload)) r after
+    → MeetsOutcome (trailerCall w buf) r after → MeetsOutcome (writeStep w buf (callOf kind stream payload)) r after
 unfolding writeStep
 trailer-step w buf payload kind stream n k m = rw (ne-eqb _ _ n, ne-eqb _ _ k) m
 
@@ -44,7 +44,7 @@ step-length w buf trailer = trailer-length w buf
 -- one call on: what it wrote and its verdict are those of the step
 pub writing-on : (l : Lists) (n : ℕ) (s₀ : State) (verdicts₀ : List ℕ) {w : Writer} {buf verdicts : List ℕ} {i at : ℕ}
     → Going step 2 (callAt l) n s₀ verdicts₀ (record { writer = w; buffer = buf }) verdicts i at → i < n → (r : Wrote) (after : List ℕ)
-    → Meets (writeStep w buf (callAt l i)) r after → {left : List ℕ} → left ≡ put verdicts at (verdict (said (r .result)))
+    → MeetsOutcome (writeStep w buf (callAt l i)) r after → {left : List ℕ} → left ≡ put verdicts at (verdict (said (r .result)))
     → Going step 2 (callAt l) n s₀ verdicts₀ (record { writer = r .writer; buffer = after }) left (i + 1) (at + 2)
 writing-on l n s₀ verdicts₀ {w} {buf} {verdicts} {i} {at} g h r after m p =
     going-on step 2 (callAt l) n s₀ verdicts₀ (λ s c. refl) g h _ (λ j. record { writer = m .writer j; buffer = m .buffer j })

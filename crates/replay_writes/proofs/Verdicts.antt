@@ -10,7 +10,7 @@ use Rattle.error.specs.Answer.{Answer, accepted, refused, numberOf}
 use Rattle.muxer.specs.Writer.{fresh}
 use Rattle.muxer.specs.declared.Settings.{Settings}
 use Rattle.muxer.specs.declared.Writer.{Writer}
-use Rattle.recording.specs.Written.{WriteCall, writeStep, kept, acceptedCalls, writtenFile, Held, WritesAgreed}
+use Rattle.recording.specs.WriteLists.{WriteCall, writeStep, kept, acceptedCalls, writtenFile, Held, WritesAgreed}
 use Rattle.recording.proofs.Numbers.{Numbered, step-numbered}
 use Rattle.recording.proofs.Writes.{writes}
 use Rattle.rows.specs.Rows.{callsFrom, rowsOf}

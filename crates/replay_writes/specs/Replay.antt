@@ -12,7 +12,7 @@ use Rattle.demuxer.specs.declared.packet.PacketDuration.the-variants.{None}
 use Rattle.muxer.specs.Writer.{fresh}
 use Rattle.muxer.specs.declared.Settings.{Settings}
 use Rattle.muxer.specs.declared.Writer.{Writer}
-use Rattle.recording.specs.Written.{WriteCall, header, packet, trailer, writeStep, writerAfter, bufferAfter, WritesAgreed}
+use Rattle.recording.specs.WriteLists.{WriteCall, header, packet, trailer, writeStep, writerAfter, bufferAfter, WritesAgreed}
 use Rattle.rows.specs.Rows.{oneLength, callsFrom, Step, rowsOf, numbers, rowsIn}
 use Rattle.replay_writes.specs.declared.WritesResult.{WritesResult}
 use Rattle.replay_writes.specs.declared.WritesResult.the-variants.{Done, Unequal, NoRoom}

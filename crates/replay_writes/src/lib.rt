@@ -11,8 +11,8 @@ ghost use Prim.Native.Nat.{_+_, _≤_};
 ghost use lib.ListN.{length};
 ghost use Rattle.error.specs.Refusal.{said};
 ghost use Rattle.fields.specs.Le.{put};
-ghost use Rattle.muxer.specs.Writer.{Meets};
-ghost use Rattle.recording.specs.Written.{writeStep};
+ghost use Rattle.muxer.specs.Writer.{MeetsOutcome};
+ghost use Rattle.recording.specs.WriteLists.{writeStep};
 ghost use Rattle.replay_writes.specs.Replay.{lists, payloadIn, callOf, verdict, Replayed, Kept};
 
 // The kind of call that writes a header. Every kind but these two writes a trailer.
@@ -57,7 +57,7 @@ fn run_write(
     start: u64,
     len: u64,
 ) -> Wrote
-    ensures { λ r. ⌜ Meets (writeStep writer (now (buf .entry)) (callOf kind stream (payloadIn (now (payloads .entry)) start len)))
+    ensures { λ r. ⌜ MeetsOutcome (writeStep writer (now (buf .entry)) (callOf kind stream (payloadIn (now (payloads .entry)) start len)))
         r (now (buf .exit)) ⌝ }
 {
     if kind == HEADER {

@@ -17,7 +17,8 @@ use Rattle.chunk.specs.Chunk.{videoTag, audioTag}
 use Rattle.error.specs.Answer.{refused, numbered}
 use Rattle.demuxer.specs.Position.{countLimit}
 use Rattle.demuxer.specs.declared.position.Position.{Position}
-use Rattle.chunk_index.specs.Entry.{entryLen, entryAt, entriesFrom, entriesOf, Small}
+use Rattle.chunk_index.specs.Entry.{entryLen, entryAt, entriesFrom, entriesOf}
+use Rattle.chunk_index.specs.Steps.{Small}
 use Rattle.chunk_index.specs.declared.entry.ChunkIndexEntry.{ChunkIndexEntry}
 use Rattle.seek.specs.Seek.{goodEntry, goodEntries, stampOf, reaches, find, beyond, pastLast}
 use Rattle.seek.specs.Steps.{least}

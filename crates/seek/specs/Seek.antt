@@ -17,7 +17,7 @@ use Rattle.error.specs.Answer.{Answer, accepted, refused, ask, andThen}
 use Rattle.error.specs.Refusal.{refusalOf}
 use Rattle.seek.specs.declared.SeekResult.{SeekResult}
 use Rattle.seek.specs.declared.SeekResult.the-variants.{Ok, Err}
-use Rattle.seek.specs.declared.Sought.{Sought}
+use Rattle.seek.specs.declared.SeekOutcome.{SeekOutcome}
 
 -- a stream's stamp at a position: frames for stream 0, samples for stream 1
 abbrev pub stampOf : ℕ → Position → ℕ
@@ -92,5 +92,5 @@ saidSeek (Ok stamp) = accepted stamp
 saidSeek (Err e) = refused (refusalOf e)
 
 -- the two parts of what the code returns
-abbrev pub saidSought : Sought → Seeking
-saidSought r = record { answer = saidSeek (r .result); walker = r .walker }
+abbrev pub saidSeekOutcome : SeekOutcome → Seeking
+saidSeekOutcome r = record { answer = saidSeek (r .result); walker = r .walker }

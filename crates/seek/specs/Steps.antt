@@ -1,4 +1,4 @@
--- Steps on the way: what private functions promise each other. Nothing here need be believed. Assumes nothing.
+-- Steps on the way: what functions below the calls promise each other. Nothing here need be believed. Assumes nothing.
 use Prim.Native.Nat.{ℕ}
 use mathlib.Core.Option.{Option, none, some}
 use lib.IntN.{ℤ, pos, negsuc}

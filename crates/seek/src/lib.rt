@@ -13,8 +13,10 @@ ghost use lib.Dec.{eqb};
 ghost use lib.IntN.{pos};
 ghost use Rattle.error.specs.Refusal.{said};
 ghost use Rattle.fields.specs.Capped.{u32Max};
-ghost use Rattle.chunk_index.specs.Entry.{Small, entriesOf};
-ghost use Rattle.seek.specs.Seek.{goodEntry, goodEntries, seekQuestions, stampOf, reaches, find, beyond, pastLast, movedTo, landed, saidSought, seekOf};
+ghost use Rattle.chunk_index.specs.Entry.{entriesOf};
+ghost use Rattle.chunk_index.specs.Steps.{Small};
+ghost use Rattle.seek.specs.Seek.{goodEntry, goodEntries, seekQuestions, stampOf, reaches, find, beyond, pastLast};
+ghost use Rattle.seek.specs.Seek.{movedTo, landed, saidSeekOutcome, seekOf};
 ghost use Rattle.seek.specs.Steps.{least, foundOf};
 
 // What a seek answers: the stamp of the stream where the walker now stands, or a refusal.
@@ -24,7 +26,7 @@ pub enum SeekResult {
 }
 
 // A seek's answer, the stamp, and the walker that the next call gets.
-pub struct Sought {
+pub struct SeekOutcome {
     pub result: SeekResult,
     pub walker: Walker,
 }
@@ -50,14 +52,14 @@ fn good_entry(e: ChunkIndexEntry) -> bool
 }
 
 // The first record that is not good is refused, at its start.
-fn good_entries(records: &[u8]) -> AmvResult
-    ensures { λ r. ⌜ said r ≡ goodEntries 0 (entriesOf (now (records .entry))) ⌝ }
+fn good_entries(table: &[u8]) -> AmvResult
+    ensures { λ r. ⌜ said r ≡ goodEntries 0 (entriesOf (now (table .entry))) ⌝ }
 {
     let mut at: usize = 0;
-    let mut left = records.len();
+    let mut left = table.len();
     while ChunkIndexEntry::LEN <= left {
         left -= ChunkIndexEntry::LEN;
-        if !good_entry(ChunkIndexEntry::read(records, at)) {
+        if !good_entry(ChunkIndexEntry::read(table, at)) {
             return AmvResult::Err(AmvError::BadRecord(at as u64));
         }
         at += ChunkIndexEntry::LEN;
@@ -66,16 +68,16 @@ fn good_entries(records: &[u8]) -> AmvResult
 }
 
 // The questions of a seek.
-fn ask_seek(walker: Walker, records: &[u8], stream: u32) -> AmvResult
-    ensures { λ r. ⌜ said r ≡ seekQuestions (now (records .entry)) walker stream ⌝ }
+fn ask_seek(walker: Walker, table: &[u8], stream: u32) -> AmvResult
+    ensures { λ r. ⌜ said r ≡ seekQuestions (now (table .entry)) walker stream ⌝ }
 {
-    if records.len() % ChunkIndexEntry::LEN != 0 {
+    if table.len() % ChunkIndexEntry::LEN != 0 {
         return AmvResult::Err(AmvError::TableRagged);
     }
     if 1 < stream {
         return AmvResult::Err(AmvError::NoSuchStream);
     }
-    match good_entries(records) {
+    match good_entries(table) {
         AmvResult::Err(e) => AmvResult::Err(e),
         AmvResult::Ok => {
             let position = walker.position;
@@ -121,14 +123,14 @@ fn reaches_entry(stream: u32, request: u64, e: ChunkIndexEntry) -> bool
 }
 
 // The first record of a stream that reaches a request.
-fn find_entry(records: &[u8], stream: u32, request: u64) -> Found
-    ensures { λ r. ⌜ foundOf r ≡ find stream (pos request) (entriesOf (now (records .entry))) ⌝ }
+fn find_entry(table: &[u8], stream: u32, request: u64) -> Found
+    ensures { λ r. ⌜ foundOf r ≡ find stream (pos request) (entriesOf (now (table .entry))) ⌝ }
 {
     let mut at: usize = 0;
-    let mut left = records.len();
+    let mut left = table.len();
     while ChunkIndexEntry::LEN <= left {
         left -= ChunkIndexEntry::LEN;
-        let e = ChunkIndexEntry::read(records, at);
+        let e = ChunkIndexEntry::read(table, at);
         if reaches_entry(stream, request, e) {
             let position = e.position;
             return Found::At(position);
@@ -165,19 +167,19 @@ fn beyond_entry(e: ChunkIndexEntry) -> Position
 }
 
 // Past the last record, or the position itself where there is none.
-fn beyond_last(position: Position, records: &[u8]) -> Position
-    ensures { λ r. ⌜ r ≡ pastLast position (entriesOf (now (records .entry))) ⌝ }
+fn beyond_last(position: Position, table: &[u8]) -> Position
+    ensures { λ r. ⌜ r ≡ pastLast position (entriesOf (now (table .entry))) ⌝ }
 {
-    let count = records.len() / ChunkIndexEntry::LEN;
+    let count = table.len() / ChunkIndexEntry::LEN;
     if count == 0 {
         return position;
     }
-    beyond_entry(ChunkIndexEntry::read(records, (count - 1) * ChunkIndexEntry::LEN))
+    beyond_entry(ChunkIndexEntry::read(table, (count - 1) * ChunkIndexEntry::LEN))
 }
 
 // The whole position at once; cut and trailer stay.
-fn moved_to(walker: Walker, stream: u32, position: Position, end: bool) -> Sought
-    ensures { λ r. ⌜ saidSought r ≡ movedTo walker stream position end ⌝ }
+fn moved_to(walker: Walker, stream: u32, position: Position, end: bool) -> SeekOutcome
+    ensures { λ r. ⌜ saidSeekOutcome r ≡ movedTo walker stream position end ⌝ }
 {
     let trailer = walker.trailer;
     let moved = Walker {
@@ -186,21 +188,21 @@ fn moved_to(walker: Walker, stream: u32, position: Position, end: bool) -> Sough
         cut: walker.cut,
         trailer,
     };
-    Sought {
+    SeekOutcome {
         result: SeekResult::Ok(stamp_of(stream, position)),
         walker: moved,
     }
 }
 
 // Where the search leads.
-fn land(walker: Walker, records: &[u8], stream: u32, found: Found) -> Sought
-    ensures { λ r. ⌜ saidSought r ≡ landed (entriesOf (now (records .entry))) walker stream (foundOf found) ⌝ }
+fn land(walker: Walker, table: &[u8], stream: u32, found: Found) -> SeekOutcome
+    ensures { λ r. ⌜ saidSeekOutcome r ≡ landed (entriesOf (now (table .entry))) walker stream (foundOf found) ⌝ }
 {
     match found {
         Found::At(position) => moved_to(walker, stream, position, false),
         Found::Nowhere => {
             let position = walker.position;
-            moved_to(walker, stream, beyond_last(position, records), true)
+            moved_to(walker, stream, beyond_last(position, table), true)
         }
     }
 }
@@ -208,17 +210,17 @@ fn land(walker: Walker, records: &[u8], stream: u32, found: Found) -> Sought
 // Moves a walker to the first record of a stream whose stamp reaches a request, or past the last record with the end mark, without walking the
 // file. Refused in this order, with the walker as it was: a table that is no whole number of records with 41, a stream that is not 0 or 1 with
 // 42, a record of another tag or too many samples with 43 at its start, a position out of range with 32.
-pub fn seek_to_via_index(walker: Walker, records: &[u8], stream: u32, request: i64) -> Sought
-    ensures { λ r. ⌜ saidSought r ≡ seekOf (now (records .entry)) walker stream request ⌝ }
+pub fn seek_to_via_index(walker: Walker, table: &[u8], stream: u32, request: i64) -> SeekOutcome
+    ensures { λ r. ⌜ saidSeekOutcome r ≡ seekOf (now (table .entry)) walker stream request ⌝ }
 {
-    match ask_seek(walker, records, stream) {
-        AmvResult::Err(e) => Sought {
+    match ask_seek(walker, table, stream) {
+        AmvResult::Err(e) => SeekOutcome {
             result: SeekResult::Err(e),
             walker,
         },
         AmvResult::Ok => {
-            let found = find_entry(records, stream, least_stamp(request));
-            land(walker, records, stream, found)
+            let found = find_entry(table, stream, least_stamp(request));
+            land(walker, table, stream, found)
         }
     }
 }

@@ -2,10 +2,10 @@
 use mathlib.Core.Path.{_≡_, ap, _∙_}
 use mathlib.Core.List.{List}
 use Prim.Native.Nat.{ℕ}
-use Rattle.muxer.specs.Writer.{Outcome}
+use Rattle.muxer.specs.Writer.{WriteOutcome}
 use Rattle.muxer.specs.declared.Writer.{Writer}
-use Rattle.capi.specs.Calls.{bufferAfter, Writes}
+use Rattle.capi.specs.Calls.{bufferAfterCall, WriterCall}
 
-pub lent-by : (call : Writer → Outcome) (buf : List ℕ) {ws vs : List ℕ} {n : ℕ} {out words after : List ℕ} → Writes call ws buf n out words after
-    → ws ≡ vs → after ≡ bufferAfter call vs buf
-lent-by call buf w e = w .buffer ∙ ap (λ (l : List ℕ). bufferAfter call l buf) e
+pub lent-by : (call : Writer → WriteOutcome) (buf : List ℕ) {ws vs : List ℕ} {n : ℕ} {out words after : List ℕ} → WriterCall call ws buf n out words after
+    → ws ≡ vs → after ≡ bufferAfterCall call vs buf
+lent-by call buf w e = w .buffer ∙ ap (λ (l : List ℕ). bufferAfterCall call l buf) e

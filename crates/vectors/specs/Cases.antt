@@ -9,7 +9,7 @@ use lib.ListN.{length, getD}
 use Rattle.fields.specs.Le.{le}
 use Rattle.chunk_index.specs.Index.{buildOf}
 use Rattle.muxer.specs.Writer.{headerCall, packetCall, trailerCall}
-use Rattle.capi.specs.Calls.{bufferAfter}
+use Rattle.capi.specs.Calls.{bufferAfterCall}
 use Rattle.vectors.specs.declared.case.CaseAt.{CaseAt}
 use Rattle.vectors.specs.declared.case.CaseAt.the-variants.{Whole, Short}
 
@@ -56,6 +56,6 @@ streamIn head = getD head 0 0 % 4294967296
 abbrev pub lentAfter : ℕ → List ℕ → List ℕ → List ℕ → List ℕ
 lentAfter function bytes head lent =
     cond (eqb function 3) (buildOf bytes lent .table)
-    (cond (eqb function 4) (bufferAfter (λ w. headerCall w lent) (writerIn head) lent)
-    (cond (eqb function 5) (bufferAfter (λ w. packetCall w bytes (streamIn head) lent) (writerIn head) lent)
-    (bufferAfter (λ w. trailerCall w lent) (writerIn head) lent)))
+    (cond (eqb function 4) (bufferAfterCall (λ w. headerCall w lent) (writerIn head) lent)
+    (cond (eqb function 5) (bufferAfterCall (λ w. packetCall w bytes (streamIn head) lent) (writerIn head) lent)
+    (bufferAfterCall (λ w. trailerCall w lent) (writerIn head) lent)))

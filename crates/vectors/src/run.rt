@@ -18,7 +18,7 @@ ghost use lib.ListN.{length, take};
 ghost use Rattle.fields.specs.Le.{put};
 ghost use Rattle.chunk_index.specs.Index.{buildOf};
 ghost use Rattle.muxer.specs.Writer.{headerCall, packetCall, trailerCall};
-ghost use Rattle.capi.specs.Calls.{bufferAfter};
+ghost use Rattle.capi.specs.Calls.{bufferAfterCall};
 ghost use Rattle.vectors.specs.Cases.{requestOf, tagsIn, walkerIn, writerIn, streamIn, lentAfter};
 
 // The longest table, buffer or list of tags of a case.
@@ -63,7 +63,7 @@ fn run_parse(file: &[u8], head: [u64; 12]) {
     print_end();
 }
 
-fn walker_of(head: [u64; 12]) -> [u64; 7]
+fn head_walker(head: [u64; 12]) -> [u64; 7]
     ensures { λ r. ⌜ r ≡ walkerIn head ⌝ }
 {
     [
@@ -78,7 +78,7 @@ fn walker_of(head: [u64; 12]) -> [u64; 7]
 }
 
 fn run_next_packet(file: &[u8], head: [u64; 12]) {
-    let mut walker = walker_of(head);
+    let mut walker = head_walker(head);
     let mut out = [0u64; 7];
     let number = capi::amv_next_packet(file, &mut walker, &mut out);
     print_call(b"next_packet", number);
@@ -88,7 +88,7 @@ fn run_next_packet(file: &[u8], head: [u64; 12]) {
 }
 
 fn run_seek_to_via_index(table: &[u8], head: [u64; 12]) {
-    let mut walker = walker_of(head);
+    let mut walker = head_walker(head);
     let mut out = [0u64; 2];
     let stream = (head[0] % 4294967296) as u32;
     let request = request_of(head[1], head[2]);
@@ -159,7 +159,7 @@ fn writer_of(head: [u64; 12]) -> [u64; 9]
 }
 
 fn run_write_header(head: [u64; 12], buf: &mut [u8])
-    ensures { λ _. ⌜ now (buf .exit) ≡ bufferAfter (λ w. headerCall w (now (buf .entry))) (writerIn head) (now (buf .entry)) ⌝ }
+    ensures { λ _. ⌜ now (buf .exit) ≡ bufferAfterCall (λ w. headerCall w (now (buf .entry))) (writerIn head) (now (buf .entry)) ⌝ }
 {
     let mut writer = writer_of(head);
     let mut out = [0u64; 1];
@@ -173,7 +173,7 @@ fn run_write_header(head: [u64; 12], buf: &mut [u8])
 
 fn run_write_packet(head: [u64; 12], buf: &mut [u8], payload: &[u8])
     ensures { λ _. ⌜ now (buf .exit)
-        ≡ bufferAfter (λ w. packetCall w (now (payload .entry)) (streamIn head) (now (buf .entry))) (writerIn head) (now (buf .entry)) ⌝ }
+        ≡ bufferAfterCall (λ w. packetCall w (now (payload .entry)) (streamIn head) (now (buf .entry))) (writerIn head) (now (buf .entry)) ⌝ }
 {
     let mut writer = writer_of(head);
     let mut out = [0u64; 1];
@@ -187,7 +187,7 @@ fn run_write_packet(head: [u64; 12], buf: &mut [u8], payload: &[u8])
 }
 
 fn run_write_trailer(head: [u64; 12], buf: &mut [u8])
-    ensures { λ _. ⌜ now (buf .exit) ≡ bufferAfter (λ w. trailerCall w (now (buf .entry))) (writerIn head) (now (buf .entry)) ⌝ }
+    ensures { λ _. ⌜ now (buf .exit) ≡ bufferAfterCall (λ w. trailerCall w (now (buf .entry))) (writerIn head) (now (buf .entry)) ⌝ }
 {
     let mut writer = writer_of(head);
     let mut out = [0u64; 1];

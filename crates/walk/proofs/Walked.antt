@@ -1,11 +1,11 @@
--- Where a walk can stand. Its positions stay in every range: by then at most 2^29 chunks have passed, each with a u32 of samples. Assumes nothing.
-use mathlib.Core.Path.{_≡_}
-use Prim.Native.Nat.{ℕ, _+_, _*_, _≤_, _<_}
+-- Where a walk can stand: the position after a chunk is walked where the one before it was, and its header stood within the limit.
+-- Assumes nothing.
+use Prim.Native.Nat.{ℕ, _+_, _≤_}
 use native.Mathlib.Omega.{arith}
 use Rattle.fields.specs.Capped.{u32Max}
 use Rattle.chunk.specs.Chunk.{payloadLimit}
 use Rattle.fields.specs.File.{fileLimit}
-use Rattle.demuxer.specs.Position.{start, InRange, pastFrame, pastSound}
+use Rattle.demuxer.specs.Position.{start, pastFrame, pastSound}
 use Rattle.demuxer.specs.declared.position.Position.{Position}
 use Rattle.walk.specs.Steps.{Walked}
 
@@ -13,16 +13,6 @@ pub walked-start : Walked start
 walked-start = record { cursor-le = omega arith; chunks-le = omega arith; samples-le = omega arith }
 
 module _ (p : Position) (w : Walked p) (l : p .cursor + 8 ≤ fileLimit) where
-  pub walked-range : InRange p
-  walked-range =
-      record {
-        cursor-in = omega arith;
-        frames-in = omega (arith, w .chunks-le);
-        samples-in = omega (arith, w .chunks-le, w .samples-le);
-        blocks-in = omega (arith, w .chunks-le);
-      }
-
-  -- and the position after a chunk is one of them
   pub walked-frame : (size : ℕ) → size ≤ payloadLimit → Walked (pastFrame p size)
   walked-frame size b = record { cursor-le = omega arith; chunks-le = omega (arith, w .chunks-le); samples-le = w .samples-le }
 

@@ -131,3 +131,14 @@ by-cursor p Sound size count = refl
 
 pub past-cursor : (file : List ℕ) (p : Position) (c : ChunkAt) → pastAt file p c .cursor ≡ p .cursor + (8 + c .size)
 past-cursor file p c = by-cursor p (c .kind) (c .size) (countOf (payloadAt file (p .cursor) (c .size)))
+
+-- and has one chunk more before it
+abbrev pub chunksBefore : Position → ℕ
+chunksBefore p = p .frames .0 + p .blocks .0
+
+pub one-more : (file : List ℕ) (p : Position) (c : ChunkAt) → chunksBefore (pastAt file p c) ≡ chunksBefore p + 1
+one-more file p c = go (c .kind) (countOf (payloadAt file (p .cursor) (c .size)))
+  where
+    go : (kind : Kind) (count : ℕ) → chunksBefore (pastBy p kind (c .size) count) ≡ chunksBefore p + 1
+    go Frame count = omega arith
+    go Sound count = omega arith

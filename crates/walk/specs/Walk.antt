@@ -1,5 +1,6 @@
 -- The walk over the chunks of a file, defined once: index, summary and check are folds of it. Assumes nothing.
 use Prim.Native.Nat.{ℕ, zero, suc, _+_, _-_}
+use mathlib.Core.Bool.{Bool, true, false}
 use mathlib.Core.List.{List}
 use lib.ListN.{length}
 use Rattle.chunk.specs.Chunk.{videoTag, audioTag, advanceTotal}
@@ -22,6 +23,10 @@ use Rattle.walk.specs.declared.Step.the-variants as step
 abbrev pub kindTag : Kind → ℕ
 kindTag Frame = videoTag
 kindTag Sound = audioTag
+
+abbrev pub isFrame : Kind → Bool
+isFrame Frame = true
+isFrame Sound = false
 
 -- a chunk of a kind and a length at an offset, and how many bytes of its payload the file does not have
 abbrev pub chunkAt : List ℕ → ℕ → Kind → ℕ → ChunkAt

@@ -9,7 +9,7 @@ ghost use mathlib.Core.Path.{_≡_};
 ghost use Prim.Native.Nat.{_+_, _≤_};
 ghost use lib.ListN.{length};
 ghost use Rattle.fields.specs.File.{fileLimit};
-ghost use Rattle.walk.specs.Walk.{kindTag, chunkAt, stepAt};
+ghost use Rattle.walk.specs.Walk.{kindTag, isFrame, chunkAt, stepAt};
 ghost use Rattle.walk.specs.Steps.{pastAt, Walked};
 
 // The two kinds of chunk that a walk goes past.
@@ -26,6 +26,16 @@ impl Kind {
         match self {
             Kind::Frame => VIDEO_CHUNK_TAG,
             Kind::Sound => AUDIO_CHUNK_TAG,
+        }
+    }
+
+    // Whether the kind is a frame.
+    pub fn is_frame(self) -> bool
+        ensures { λ r. ⌜ r ≡ isFrame self ⌝ }
+    {
+        match self {
+            Kind::Frame => true,
+            Kind::Sound => false,
         }
     }
 }

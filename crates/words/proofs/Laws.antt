@@ -15,11 +15,11 @@ use Rattle.demuxer.specs.declared.packet.Packet.{Packet}
 use Rattle.demuxer.specs.declared.walker.Walker.{Walker}
 use Rattle.demuxer.specs.declared.walker.NextPacket.{NextPacket}
 use Rattle.demuxer.specs.declared.walker.NextPacket.the-variants as next
-use Rattle.words.specs.Out.{Says, Accepted, outOf, packetWords, readWords}
+use Rattle.words.specs.Out.{OutSays, Accepted, outOf, packetWords, readWords}
 
 -- ---- what a call says
 
-pub says-accepted : {answer : Answer (List ℕ)} {words out : List ℕ} (n : ℕ) → answer ≡ accepted words → out ≡ 0 ∷ words → Says n answer 0 out
+pub says-accepted : {answer : Answer (List ℕ)} {words out : List ℕ} (n : ℕ) → answer ≡ accepted words → out ≡ 0 ∷ words → OutSays n answer 0 out
 says-accepted n e o =
     record {
       number = ap numberOf (sym e);
@@ -28,7 +28,7 @@ says-accepted n e o =
     }
 
 pub says-refused : {answer : Answer (List ℕ)} {r : Refusal} {number place : ℕ} (n : ℕ) → answer ≡ refused r → number ≡ r .number
-    → place ≡ r .place → (r .number ≡ 0 → ⊥) → Says n answer number (place ∷ replicate (n - 1) 0)
+    → place ≡ r .place → (r .number ≡ 0 → ⊥) → OutSays n answer number (place ∷ replicate (n - 1) 0)
 says-refused n e p q d =
     record {
       number = p ∙ ap numberOf (sym e);
@@ -38,7 +38,7 @@ says-refused n e p q d =
 
 -- a refusal of the code
 pub says-error : {answer : Answer (List ℕ)} {number place : ℕ} (n : ℕ) (e : AmvError) → answer ≡ refused (refusalOf e)
-    → number ≡ refusalOf e .number → place ≡ refusalOf e .place → Says n answer number (place ∷ replicate (n - 1) 0)
+    → number ≡ refusalOf e .number → place ≡ refusalOf e .place → OutSays n answer number (place ∷ replicate (n - 1) 0)
 says-error n e a p q = says-refused n a p q (never-zero e)
 
 -- ---- a packet

@@ -20,7 +20,7 @@ Accepted (accepted x) = Unit
 Accepted (refused r) = ⊥
 
 -- what a call returns, and the n words of its `out` as it leaves them; no refusal has the number 0
-pub record Says (n : ℕ) (answer : Answer (List ℕ)) (returned : ℕ) (out : List ℕ) : Type 0 where
+pub record OutSays (n : ℕ) (answer : Answer (List ℕ)) (returned : ℕ) (out : List ℕ) : Type 0 where
   pub number : returned ≡ numberOf answer
   pub words : out ≡ outOf n answer
   pub zero : returned ≡ 0 → Accepted answer

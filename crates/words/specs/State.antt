@@ -5,6 +5,7 @@ use mathlib.Core.Bool.{Bool, true, cond, _&&_}
 use mathlib.Core.List.{List, [], _∷_}
 use lib.Dec.{leb, eqb}
 use lib.ListN.{length, getD}
+use Rattle.fields.specs.Capped.{u32Max}
 use Rattle.error.specs.Answer.{Answer, accepted, refused, numbered, ask}
 use Rattle.demuxer.specs.declared.position.Position.{Position}
 use Rattle.demuxer.specs.declared.walker.Trailer.{Trailer}
@@ -78,7 +79,7 @@ saidWalker walker.Illegal = refused (numbered 1 0)
 -- a writer: width, height, fps, rate, channels, begun, ended, written, frames
 unfoldable pub settingsLegal : List ℕ → Bool
 settingsLegal ws =
-    leb (word ws 0) 4294967295 && leb (word ws 1) 4294967295 && leb (word ws 2) 4294967295 && leb (word ws 3) 4294967295
+    leb (word ws 0) u32Max && leb (word ws 1) u32Max && leb (word ws 2) u32Max && leb (word ws 3) u32Max
     && leb (word ws 4) 65535
 
 unfoldable pub writerLegal : List ℕ → Bool

@@ -7,11 +7,11 @@ ghost use mathlib.Core.Path.{_≡_};
 ghost use mathlib.Core.List.{_∷_};
 ghost use Rattle.demuxer.specs.Packet.{ticks};
 ghost use Rattle.error.specs.Refusal.{said};
-ghost use Rattle.words.specs.Out.{Says, checked, shownDuration, preludeWords, packetWords};
+ghost use Rattle.words.specs.Out.{OutSays, checked, shownDuration, preludeWords, packetWords};
 
 // The answer of a call that only checks: gives its number, and leaves its place in `out`.
 pub fn result_out(result: AmvResult, out: &mut [u64; 1]) -> u32
-    ensures { λ r. ⌜ Says 1 (checked (said result)) r (now (out .exit)) ⌝ }
+    ensures { λ r. ⌜ OutSays 1 (checked (said result)) r (now (out .exit)) ⌝ }
 {
     match result {
         AmvResult::Ok => {

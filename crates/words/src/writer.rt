@@ -5,6 +5,9 @@ use muxer::Writer;
 ghost use mathlib.Core.Path.{_≡_};
 ghost use Rattle.words.specs.State.{writerOf, saidWriter, writerWords, countsInto};
 
+// The largest number that a 32-bit setting holds.
+const LARGEST: u64 = fields::U32_MAX as u64;
+
 // The writer of nine words, if each is in its field's range.
 pub enum WriterState {
     Legal(Writer),
@@ -15,16 +18,16 @@ pub enum WriterState {
 pub fn writer_of(words: [u64; 9]) -> WriterState
     ensures { λ r. ⌜ saidWriter r ≡ writerOf words ⌝ }
 {
-    if 4294967295 < words[0] {
+    if LARGEST < words[0] {
         return WriterState::Illegal;
     }
-    if 4294967295 < words[1] {
+    if LARGEST < words[1] {
         return WriterState::Illegal;
     }
-    if 4294967295 < words[2] {
+    if LARGEST < words[2] {
         return WriterState::Illegal;
     }
-    if 4294967295 < words[3] {
+    if LARGEST < words[3] {
         return WriterState::Illegal;
     }
     if 65535 < words[4] {

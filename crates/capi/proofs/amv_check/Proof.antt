@@ -1,7 +1,7 @@
 -- `capi::amv_check` meets its contract. `gave` tells the answer by the variant of each arm. The totals are accepted as six words, the last one by what
 -- `mark_word` ensures; a refusal is said by `says-error`.
 -- Assumes nothing.
-use Rattle.recording.specs.Check.{saidCheck}
+use Rattle.finished.specs.Check.{saidCheck}
 use Rattle.words.proofs.Laws.{says-accepted, says-error}
 use Rattle.capi.specs.Calls.{totalsWords}
 use Rattle.capi.proofs.Laws.{gave}

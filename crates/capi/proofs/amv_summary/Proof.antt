@@ -2,7 +2,7 @@
 -- what is returned and written.
 -- Assumes nothing.
 use mathlib.Core.Path.{refl}
-use Rattle.chunk_index.specs.Index.{saidSummary}
+use Rattle.chunk_index.specs.Summary.{saidSummary}
 use Rattle.words.proofs.Laws.{says-accepted, says-error}
 use Rattle.capi.specs.Calls.{countsWords}
 use Rattle.capi.proofs.Laws.{gave}

@@ -3,8 +3,6 @@
 use borrow.Author.Tests.{eq-eqb, ne-eqb}
 use Rattle.chunk.proofs.stream_tag.Statement.{statement}
 use Rattle.chunk.proofs.stream_tag.Tie as tie
-use Rattle.chunk.proofs.stream_tag.Reads as reads
-use Rattle.chunk.proofs.stream_tag.Lts as lts
 
 returns : tie.Need-returns
 returns c = rw (eq-eqb _ _ (c .if1 .taken))

@@ -10,9 +10,6 @@ use Rattle.fields.proofs.Laws.{front-put}
 use borrow.Author.Needs.{needs}
 use Rattle.fields.proofs.copy_block.Statement.{statement}
 use Rattle.fields.proofs.copy_block.Tie as tie
-use Rattle.fields.proofs.copy_block.Reads as reads
-use Rattle.fields.proofs.copy_block.Lts as lts
-use Rattle.fields.proofs.copy_bytes.Reads as copy-bytes-reads
 
 slice-aggregate-copy-bytes : tie.Need-slice-aggregate-copy-bytes
 slice-aggregate-copy-bytes c = search needs

@@ -10,8 +10,6 @@ use lib.Seq.{paste, paste-zero}
 use Rattle.fields.proofs.Laws.{copy-more, copy-done}
 use Rattle.fields.proofs.copy_bytes.Statement.{statement}
 use Rattle.fields.proofs.copy_bytes.Tie as tie
-use Rattle.fields.proofs.copy_bytes.Reads as reads
-use Rattle.fields.proofs.copy_bytes.Lts as lts
 
 abbrev Inv-loop : tie.InvT-loop
 Inv-loop buf₀ off src i₀ buf i = (i ≤ length src) × (length buf ≡ length buf₀) × (buf ≡ paste buf₀ off src i)

@@ -12,9 +12,6 @@ use Rattle.fields.specs.Le.{put}
 use Rattle.fields.proofs.Laws.{part-copied, put-nothing}
 use Rattle.fields.proofs.copy_in.Statement.{statement}
 use Rattle.fields.proofs.copy_in.Tie as tie
-use Rattle.fields.proofs.copy_in.Reads as reads
-use Rattle.fields.proofs.copy_in.Lts as lts
-use Rattle.fields.proofs.copy_block.Reads as copy-block-reads
 
 abbrev Inv-loop : tie.InvT-loop
 Inv-loop buf₀ off src i₀ buf i = (i ≤ length src) × (length buf ≡ length buf₀) × (buf ≡ put buf₀ off (take i src))

@@ -4,8 +4,6 @@ use borrow.Author.Tests.{eq-eqb, ne-eqb}
 use borrow.Author.Needs.{needs}
 use Rattle.fields.proofs.quotient.Statement.{statement}
 use Rattle.fields.proofs.quotient.Tie as tie
-use Rattle.fields.proofs.quotient.Reads as reads
-use Rattle.fields.proofs.quotient.Lts as lts
 
 div-result : tie.Need-div-result
 div-result c = search needs

@@ -5,9 +5,6 @@ use Rattle.fields.proofs.Laws.{le-one, le-halves}
 use borrow.Author.Needs.{needs}
 use Rattle.fields.proofs.read_u16_le.Statement.{statement}
 use Rattle.fields.proofs.read_u16_le.Tie as tie
-use Rattle.fields.proofs.read_u16_le.Reads as reads
-use Rattle.fields.proofs.read_u16_le.Lts as lts
-use Rattle.fields.proofs.wide.Reads as wide-reads
 
 shared-slice-read-wide : tie.Need-shared-slice-read-wide
 shared-slice-read-wide c = search needs

@@ -5,8 +5,6 @@ use Rattle.fields.proofs.Products.{product-lt}
 use borrow.Author.Needs.{needs}
 use Rattle.fields.proofs.saturating_mul.Statement.{statement}
 use Rattle.fields.proofs.saturating_mul.Tie as tie
-use Rattle.fields.proofs.saturating_mul.Reads as reads
-use Rattle.fields.proofs.saturating_mul.Lts as lts
 
 mul-product : tie.Need-mul-product
 mul-product c = record { fits = product-lt 32 (search needs) (search needs) }

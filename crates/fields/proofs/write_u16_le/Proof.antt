@@ -8,8 +8,6 @@ use Rattle.fields.proofs.Laws.{leBytes-mod, putLe-halves, putLe-one}
 use borrow.Author.Needs.{needs}
 use Rattle.fields.proofs.write_u16_le.Statement.{statement}
 use Rattle.fields.proofs.write_u16_le.Tie as tie
-use Rattle.fields.proofs.write_u16_le.Reads as reads
-use Rattle.fields.proofs.write_u16_le.Lts as lts
 
 cast-buf : tie.Need-cast-buf
 cast-buf c = search needs

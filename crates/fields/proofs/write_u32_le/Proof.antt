@@ -6,9 +6,6 @@ use Rattle.fields.proofs.Laws.{putLe-halves}
 use borrow.Author.Needs.{needs}
 use Rattle.fields.proofs.write_u32_le.Statement.{statement}
 use Rattle.fields.proofs.write_u32_le.Tie as tie
-use Rattle.fields.proofs.write_u32_le.Reads as reads
-use Rattle.fields.proofs.write_u32_le.Lts as lts
-use Rattle.fields.proofs.write_u16_le.Reads as write-u16-le-reads
 
 cast-write-u16-le : tie.Need-cast-write-u16-le
 cast-write-u16-le c = search needs

@@ -6,9 +6,6 @@ use Rattle.fields.proofs.Laws.{putLe-halves}
 use borrow.Author.Needs.{needs}
 use Rattle.fields.proofs.write_u64_le.Statement.{statement}
 use Rattle.fields.proofs.write_u64_le.Tie as tie
-use Rattle.fields.proofs.write_u64_le.Reads as reads
-use Rattle.fields.proofs.write_u64_le.Lts as lts
-use Rattle.fields.proofs.write_u32_le.Reads as write-u32-le-reads
 
 cast-write-u32-le : tie.Need-cast-write-u32-le
 cast-write-u32-le c = search needs

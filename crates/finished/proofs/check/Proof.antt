@@ -1,6 +1,6 @@
 -- `finished::check` meets its contract. What the strict parse refuses is refused; what it accepts is within the limit, and the chunks decide.
 -- Assumes nothing.
-use mathlib.Core.Path.{_≡_, sym, ap, _∙_}
+use mathlib.Core.Path.{sym, ap, _∙_}
 use Rattle.prelude.specs.Prelude.{saidPrelude}
 use Rattle.finished.proofs.Checking.{strict-within, check-after}
 use borrow.Author.Needs.{needs}

@@ -14,15 +14,6 @@ use Rattle.finished.specs.Check.{checkStop}
 use Rattle.finished.proofs.Checking.{Checking, check-start, check-stopped, check-cut, check-on}
 use Rattle.finished.proofs.check_chunks.Statement.{statement}
 use Rattle.finished.proofs.check_chunks.Tie as tie
-use Rattle.finished.proofs.check_chunks.Reads as reads
-use Rattle.finished.proofs.check_chunks.Lts as lts
-use Rattle.demuxer.proofs.position.Position.new.Reads as new-reads
-use Rattle.finished.proofs.check_stop.Reads as check-stop-reads
-use Rattle.finished.proofs.paired_all.Reads as paired-all-reads
-use Rattle.finished.proofs.paired_on.Reads as paired-on-reads
-use Rattle.walk.proofs.ChunkAt.past.Reads as past-reads
-use Rattle.walk.proofs.Kind.tag.Reads as tag-reads
-use Rattle.walk.proofs.step_at.Reads as step-at-reads
 
 abbrev Inv-loop : tie.InvT-loop
 Inv-loop file position₀ paired₀ position paired = Checking file position paired

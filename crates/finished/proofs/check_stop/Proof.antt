@@ -8,8 +8,6 @@ use Rattle.finished.specs.Check.{totalsAt, checkStop}
 use borrow.Author.Needs.{needs}
 use Rattle.finished.proofs.check_stop.Statement.{statement}
 use Rattle.finished.proofs.check_stop.Tie as tie
-use Rattle.finished.proofs.check_stop.Reads as reads
-use Rattle.finished.proofs.check_stop.Lts as lts
 
 enum-told : tie.Need-enum-told
 enum-told c = search needs

@@ -3,8 +3,6 @@
 use borrow.Author.Tests.{not-true, not-false}
 use Rattle.finished.proofs.paired_all.Statement.{statement}
 use Rattle.finished.proofs.paired_all.Tie as tie
-use Rattle.finished.proofs.paired_all.Reads as reads
-use Rattle.finished.proofs.paired_all.Lts as lts
 
 returns : tie.Need-returns
 returns c = rw (not-true (c .before .args .paired) (c .if1 .taken))

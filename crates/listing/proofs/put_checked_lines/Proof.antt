@@ -1,11 +1,10 @@
 -- `listing::put_checked_lines` meets its contract. The check's answer is the definition's, so each arm knows which lines are due. Where it accepts,
--- nothing is missing of any chunk (`accepted-whole`), and `join` puts the totals where the chunks' lines end.
+-- `join` puts the totals where the chunks' lines end.
 -- Assumes nothing.
 use mathlib.Core.Path.{sym, ap, _∙_}
 use borrow.Author.Needs.{needs}
 use Rattle.lines.proofs.Laws.{join}
-use Rattle.recording.specs.Check.{saidCheck}
-use Rattle.listing.proofs.Laws.{accepted-whole}
+use Rattle.finished.specs.Check.{saidCheck}
 use Rattle.listing.proofs.put_checked_lines.Statement.{statement}
 use Rattle.listing.proofs.put_checked_lines.Tie as tie
 
@@ -16,10 +15,7 @@ enum-known-totals : tie.Need-enum-known-totals
 enum-known-totals c = search needs
 
 put-chunk-lines-requires : tie.Need-put-chunk-lines-requires
-put-chunk-lines-requires c κs =
-    let p = c .before .before .before .before .before .before .before .pre in
-    let e = sym (c .before .before .before .before .check .ensures) ∙ ap saidCheck (c .before .before .totals .given .1) in
-    (p .0, (p .1, accepted-whole _ _ e))
+put-chunk-lines-requires c κs = search needs
 
 put-totals-line-requires : tie.Need-put-totals-line-requires
 put-totals-line-requires c κs = search needs

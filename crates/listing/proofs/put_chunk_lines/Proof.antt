@@ -1,115 +1,87 @@
--- `listing::put_chunk_lines` meets its contract. The invariant of its loop: the walker stands at a chunk or past the last (`Stands`), and the bytes
--- that are written and the lines that are left are all of the lines (`Listing`). The measure is the input limit less the cursor. `read-means` turns
--- each read into one more line (`listing-more`) or into the end (`listing-ends`).
+-- `listing::put_chunk_lines` meets its contract. The invariant of its loop: the bytes that are written and the lines that are left are all of the
+-- lines (`Listing`). The measure is the bytes of the file from here on. A step of the walk is one more line (`listing-more`) or the end.
 -- Assumes nothing.
-use mathlib.Core.Path.{_≡_, refl, sym, subst}
-use mathlib.Core.Logic.{_⊎_, ⊎-elim}
-use mathlib.Core.List.{List, []}
-use Prim.Native.Nat.{ℕ, _-_}
+use mathlib.Core.Path.{sym, _∙_, subst}
+use Prim.Native.Nat.{_-_}
 use native.Mathlib.Omega.{arith}
 use borrow.Author.Needs.{needs}
-use denote.Enum.Declared.{declared, tagOf}
-use Rattle.fields.specs.Le.{Bytes}
-use Rattle.demuxer.specs.Packet.{shownOf}
-use Rattle.demuxer.specs.Read.{Reading, saidNext}
-use Rattle.demuxer.specs.declared.walker.NextPacket.{NextPacket}
-use Rattle.demuxer.specs.declared.walker.NextPacket.the-variants as next
-use Rattle.demuxer.specs.declared.walker.Walker.{Walker}
-use Rattle.demuxer.proofs.walker.NextPacket.{enum}
-use Rattle.listing.specs.Listing.{inputLimit}
-use Rattle.listing.proofs.Turns.{linesFrom, Stands, Turn, Means, read-means, Listing, listing-starts, listing-ends, listing-more}
+use lib.ListN.{length}
+use Rattle.walk.specs.Steps.{Walked}
+use Rattle.walk.proofs.Walks.{Goes, step-means, past-cursor}
+use Rattle.listing.proofs.Turns.{Listing, lines-stop, listing-starts, listing-ends, one-fits, listing-more}
 use Rattle.listing.proofs.put_chunk_lines.Statement.{statement}
 use Rattle.listing.proofs.put_chunk_lines.Tie as tie
 
 abbrev Inv-loop : tie.InvT-loop
-Inv-loop out₀ file walker₀ at₀ out walker at = Stands file walker × Listing file out₀ out (walker .position) at
+Inv-loop out₀ file position₀ at₀ out position at = Listing file out₀ out position at
 
 abbrev μ-loop : tie.MeasureT-loop
-μ-loop out₀ file walker₀ at₀ out walker at = inputLimit - walker .position .cursor
+μ-loop out₀ file position₀ at₀ out position at = length file - position .cursor
 
--- what the read means
-means : (c : tie.After-next-packet Inv-loop μ-loop)
-    → Means (c .before .before .before .before .before .before .args .file .now) (c .before .before .loop .walker)
-    (saidNext (c .before .before .before .before .before .before .args .file .now) (c .next-packet .result .answer))
-    (c .next-packet .result .walker)
-unfolding Bytes
-means c =
-    let file = c .before .before .before .before .before .before .args .file .now in
-    let w = c .before .before .loop .walker in
-    subst (λ (q : Reading). Means file w (q .answer) (q .walker)) (sym (c .next-packet .ensures .0))
-    (read-means file w (λ k. c .before .before .before .before .shared-slice-known .given k .fits)
-    (c .before .before .before .before .before .before .pre .1 .0) (c .before .before .loop .inv .0))
-
--- without a packet no line is left
-none-left : (file : List ℕ) (w x : Walker) (a : NextPacket) → (tagOf (declared enum) a ≡ 1) ⊎ (tagOf (declared enum) a ≡ 2)
-    → Means file w (saidNext file a) x → linesFrom file (w .position) ≡ []
-none-left file w x (next.Packet p) k m = absurd (⊎-elim (λ e. omega arith) (λ e. omega arith) k)
-none-left file w x next.End k m = m
-none-left file w x (next.Err e) k m = m
-
--- with one it is a turn
-turn : (c : tie.After-answer Inv-loop μ-loop)
-    → Turn (c .before .before .before .before .before .before .before .before .args .file .now)
-    (c .before .before .before .before .loop .walker) (c .answer .given .0 .0 .stream) (c .before .before .next-packet .result .walker)
-unfolding shownOf
-turn c =
-    let file = c .before .before .before .before .before .before .before .before .args .file .now in
-    let w = c .before .before .before .before .loop .walker in
-    subst (λ (a : NextPacket). Means file w (saidNext file a) (c .before .before .next-packet .result .walker)) (c .answer .given .1)
-    (means (c .before .before))
+-- the chunk that the step found
+found : (c : tie.After-chunk Inv-loop μ-loop)
+    → Goes (c .before .before .before .before .before .before .before .args .file .now) (c .before .before .before .loop .position .cursor)
+    (c .chunk .given .0 .0)
+found c = step-means _ _ _ (sym (c .before .before .step-at .ensures) ∙ c .chunk .given .1)
 
 new-requires : tie.Need-new-requires Inv-loop μ-loop
 new-requires c κs = search needs
 
 loop-holds : tie.Need-loop-holds Inv-loop μ-loop
-loop-holds c =
-    rw (c .new .ensures) (
-      record {
-        going = refl;
-        whole = c .before .before .before .pre .1 .1;
-        cursor-le = omega arith;
-        frames-le = omega arith;
-        samples-le = omega arith;
-        blocks-le = omega arith;
-      },
-      listing-starts _ _,
-    )
+loop-holds c = rw (c .new .ensures) (listing-starts _ _)
 
-next-packet-requires : tie.Need-next-packet-requires Inv-loop μ-loop
-next-packet-requires c κs = search needs
+step-at-requires : tie.Need-step-at-requires Inv-loop μ-loop
+step-at-requires c κs = search needs
 
-enum-known-answer : tie.Need-enum-known-answer Inv-loop μ-loop
-enum-known-answer c = search needs
+enum-known-chunk : tie.Need-enum-known-chunk Inv-loop μ-loop
+enum-known-chunk c = search needs
+
+enum-told : tie.Need-enum-told Inv-loop μ-loop
+enum-told c = search needs
 
 same-length : tie.Need-same-length Inv-loop μ-loop
-same-length c = c .before .before .before .loop .inv .1 .kept
+same-length c = c .before .before .before .loop .inv .kept
 
 returns : tie.Need-returns Inv-loop μ-loop
 returns c =
     let l = c .before .before .before .loop in
-    let k = l .inv .0 .cursor-le in (
-      listing-ends (l .inv .1) (c .before .before .before .before .before .before .before .pre .0) k
-          (none-left _ _ _ (c .before .next-packet .result .answer) (c .match .keys2) (means (c .before))),
-      omega (arith, k, l .inv .1 .room),
+    let e = step-means _ _ _ (sym (c .before .before .step-at .ensures) ∙ c .enum-told .given .1) in (
+      listing-ends (l .inv) (c .before .before .before .before .before .before .before .pre .0) (lines-stop _ (l .position) e),
+      omega (arith, l .inv .few, l .inv .short),
     )
+
+is-frame-requires : tie.Need-is-frame-requires Inv-loop μ-loop
+is-frame-requires c κs = search needs
 
 put-chunk-line-requires : tie.Need-put-chunk-line-requires Inv-loop μ-loop
 put-chunk-line-requires c κs =
-    let l = c .before .before .before .before .before .before .before .loop in
-    let t = turn (c .before .before .before) in
-    omega (arith, l .inv .1 .room, l .inv .1 .kept, t .on, t .stands .cursor-le)
+    let s = c .before .before .before in
+    let l = s .before .before .before .loop in
+    let start = s .before .before .before .before .before .before .before in
+    omega (arith, one-fits (l .inv) (found s) (start .pre .1), l .inv .short, l .inv .kept)
+
+past-requires : tie.Need-past-requires Inv-loop μ-loop
+past-requires c κs =
+    let s = c .before .before .before .before .before .before in
+    let l = s .before .before .before .loop in
+    (omega (arith, s .before .before .before .before .before .before .before .pre .1), (found s .there, l .inv .walked))
 
 loop-less : tie.Need-loop-less Inv-loop μ-loop
 loop-less c =
-    let t = turn (c .before .before .before .before .before .before .before) in
-    omega (arith, t .on, t .stands .cursor-le)
+    let s = c .before .before .before .before .before .before .before in
+    let l = s .before .before .before .loop in
+    let file = s .before .before .before .before .before .before .before .args .file .now in
+    rw (c .past .ensures .0) (omega (arith, found s .there, past-cursor file (l .position) (s .chunk .given .0 .0)))
 
 loop-again : tie.Need-loop-again Inv-loop μ-loop
 loop-again c =
-    let l = c .before .before .before .before .before .before .before .before .before .before .before .loop in
-    let t = turn (c .before .before .before .before .before .before .before) in
-    let p = c .before .before .before .put-chunk-line .ensures in
-    (t .stands, listing-more (l .inv .1) (t .line) (t .on) (p .0) (p .1))
+    let s = c .before .before .before .before .before .before .before in
+    let l = s .before .before .before .loop in
+    let start = s .before .before .before .before .before .before .before in
+    let w = c .before .before .before .put-chunk-line .ensures in
+    let v = subst Walked (c .past .ensures .0) (c .past .ensures .1) in
+    let line = rw (c .before .before .before .before .is-frame .ensures) at (w .0) in
+    rw (c .past .ensures .0) (listing-more (l .inv) (found s) (start .pre .1) v line (w .1))
 
 pub put-chunk-lines-spec : {M : Type 1} → statement M
 put-chunk-lines-spec =
@@ -119,10 +91,13 @@ put-chunk-lines-spec =
     μ-loop
     new-requires
     loop-holds
-    next-packet-requires
-    enum-known-answer
+    step-at-requires
+    enum-known-chunk
+    enum-told
     same-length
     returns
+    is-frame-requires
     put-chunk-line-requires
+    past-requires
     loop-less
     loop-again)

@@ -5,9 +5,6 @@ use borrow.Author.Tests.{eq-eqb, ne-eqb}
 use borrow.Author.Needs.{needs}
 use Rattle.muxer.proofs.frames_after.Statement.{statement}
 use Rattle.muxer.proofs.frames_after.Tie as tie
-use Rattle.muxer.proofs.frames_after.Reads as reads
-use Rattle.muxer.proofs.frames_after.Lts as lts
-use Rattle.fields.proofs.min.Reads as min-reads
 
 sub-min : tie.Need-sub-min
 sub-min c = search needs

@@ -8,9 +8,6 @@ use Rattle.muxer.proofs.Steps.{fits-yes, fits-no}
 use borrow.Author.Needs.{needs}
 use Rattle.muxer.proofs.has_room.Statement.{statement}
 use Rattle.muxer.proofs.has_room.Tie as tie
-use Rattle.muxer.proofs.has_room.Reads as reads
-use Rattle.muxer.proofs.has_room.Lts as lts
-use Rattle.fields.proofs.min.Reads as min-reads
 
 min-requires : tie.Need-min-requires
 min-requires c κs = search needs

@@ -8,12 +8,6 @@ use Rattle.muxer.proofs.Steps as steps
 use borrow.Author.Needs.{needs}
 use Rattle.muxer.proofs.put_packet.Statement.{statement}
 use Rattle.muxer.proofs.put_packet.Tie as tie
-use Rattle.muxer.proofs.put_packet.Reads as reads
-use Rattle.muxer.proofs.put_packet.Lts as lts
-use Rattle.fields.proofs.write_u32_le.Reads as write-u32-le-reads
-use Rattle.fields.proofs.copy_in.Reads as copy-in-reads
-use Rattle.muxer.proofs.payload_size.Reads as payload-size-reads
-use Rattle.chunk.proofs.stream_tag.Reads as stream-tag-reads
 
 stream-tag-requires : tie.Need-stream-tag-requires
 stream-tag-requires c κs = search needs

@@ -3,7 +3,7 @@
 -- Assumes nothing.
 use mathlib.Core.Path.{refl}
 use Rattle.error.specs.Answer.{accepted}
-use Rattle.muxer.specs.Writer.{Outcome, headerCall, trailerCall, fresh}
+use Rattle.muxer.specs.Writer.{WriteOutcome, headerCall, trailerCall, fresh}
 use Rattle.play.specs.Recording.{settings, packetsOf}
 use Rattle.play.proofs.Laws.{onwards, kept}
 use borrow.Author.Needs.{needs}
@@ -44,7 +44,7 @@ returns c =
     let header = packets .before .before .before .before .before .before .before in
     let new = header .before .before .before in
     let a = new .before .before .args in
-    let start : Outcome = record { answer = accepted tt; writer = fresh settings; buffer = a .buf .now } in
+    let start : WriteOutcome = record { answer = accepted tt; writer = fresh settings; buffer = a .buf .now } in
     let begun = onwards headerCall start (record { writer = new .new .ensures; buffer = refl }) (kept _ (header .write-header .ensures)) in
     onwards trailerCall _ (onwards packetsOf _ begun (packets .write-packets .ensures)) (kept _ (trailer .write-trailer .ensures))
 

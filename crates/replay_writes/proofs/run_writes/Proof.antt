@@ -8,7 +8,7 @@ use native.Mathlib.Omega.{arith}
 use borrow.Author.Needs.{needs}
 use borrow.Author.Tests.{eq-eqb}
 use lib.ListN.{length}
-use Rattle.recording.specs.Written.{Held}
+use Rattle.recording.specs.WriteLists.{Held}
 use Rattle.rows.proofs.Laws.{Going, going-first, unequal}
 use Rattle.replay_writes.specs.Replay.{Lists, lists, callAt, step}
 use Rattle.replay_writes.proofs.Going.{writing-on, same-buffer, writing-last}

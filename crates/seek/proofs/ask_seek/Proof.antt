@@ -8,10 +8,6 @@ use Rattle.seek.specs.Seek.{seekQuestions}
 use borrow.Author.Needs.{needs}
 use Rattle.seek.proofs.ask_seek.Statement.{statement}
 use Rattle.seek.proofs.ask_seek.Tie as tie
-use Rattle.seek.proofs.ask_seek.Reads as reads
-use Rattle.seek.proofs.ask_seek.Lts as lts
-use Rattle.demuxer.proofs.position.Position.in_range.Reads as in-range-reads
-use Rattle.seek.proofs.good_entries.Reads as good-entries-reads
 
 returns : tie.Need-returns
 unfolding seekQuestions

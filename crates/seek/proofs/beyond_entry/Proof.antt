@@ -4,9 +4,6 @@
 use borrow.Author.Needs.{needs}
 use Rattle.seek.proofs.beyond_entry.Statement.{statement}
 use Rattle.seek.proofs.beyond_entry.Tie as tie
-use Rattle.seek.proofs.beyond_entry.Reads as reads
-use Rattle.seek.proofs.beyond_entry.Lts as lts
-use Rattle.seek.proofs.counted.Reads as counted-reads
 
 add-t4 : tie.Need-add-t4
 add-t4 c = search needs

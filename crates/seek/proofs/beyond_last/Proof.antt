@@ -9,10 +9,6 @@ use Rattle.seek.proofs.Records.{entry-small, past-records}
 use borrow.Author.Needs.{needs}
 use Rattle.seek.proofs.beyond_last.Statement.{statement}
 use Rattle.seek.proofs.beyond_last.Tie as tie
-use Rattle.seek.proofs.beyond_last.Reads as reads
-use Rattle.seek.proofs.beyond_last.Lts as lts
-use Rattle.chunk_index.proofs.entry.ChunkIndexEntry.read.Reads as read-reads
-use Rattle.seek.proofs.beyond_entry.Reads as beyond-entry-reads
 
 returns : tie.Need-returns
 unfolding pastLast entriesFrom
@@ -34,7 +30,7 @@ beyond-entry-requires c κs = rw (c .read .ensures) (entry-small _ _ (λ k. c .b
 returns-2 : tie.Need-returns-2
 returns-2 c =
     let a = c .before .before .before .before .args in
-    c .beyond-entry .ensures ∙ ap beyond (c .before .read .ensures) ∙ sym (past-records (a .position) (a .records .now) (c .before .before .if1 .left))
+    c .beyond-entry .ensures ∙ ap beyond (c .before .read .ensures) ∙ sym (past-records (a .position) (a .table .now) (c .before .before .if1 .left))
 
 pub beyond-last-spec : {M : Type 1} → statement M
 beyond-last-spec =

@@ -4,8 +4,6 @@ use borrow.Author.Tests.{eq-eqb, ne-eqb}
 use borrow.Author.Needs.{needs}
 use Rattle.seek.proofs.counted.Statement.{statement}
 use Rattle.seek.proofs.counted.Tie as tie
-use Rattle.seek.proofs.counted.Reads as reads
-use Rattle.seek.proofs.counted.Lts as lts
 
 add-result : tie.Need-add-result
 add-result c = search needs

@@ -12,18 +12,14 @@ use Rattle.seek.specs.Seek.{find}
 use Rattle.seek.proofs.Records.{entries-off, find-on, find-here}
 use Rattle.seek.proofs.find_entry.Statement.{statement}
 use Rattle.seek.proofs.find_entry.Tie as tie
-use Rattle.seek.proofs.find_entry.Reads as reads
-use Rattle.seek.proofs.find_entry.Lts as lts
-use Rattle.chunk_index.proofs.entry.ChunkIndexEntry.read.Reads as read-reads
-use Rattle.seek.proofs.reaches_entry.Reads as reaches-entry-reads
 
 abbrev Inv-loop : tie.InvT-loop
-Inv-loop records stream request at₀ left₀ at left =
-    (at + left ≡ length records)
-    × (find stream (pos request) (entriesFrom (left / entryLen) records at) ≡ find stream (pos request) (entriesOf records))
+Inv-loop table stream request at₀ left₀ at left =
+    (at + left ≡ length table)
+    × (find stream (pos request) (entriesFrom (left / entryLen) table at) ≡ find stream (pos request) (entriesOf table))
 
 abbrev μ-loop : tie.MeasureT-loop
-μ-loop records stream request at₀ left₀ at left = left
+μ-loop table stream request at₀ left₀ at left = left
 
 loop-holds : tie.Need-loop-holds Inv-loop μ-loop
 loop-holds c = (omega arith, refl)
@@ -39,7 +35,7 @@ returns c =
     let l = c .before .before .before .before .before .loop in
     let a = c .before .before .before .before .before .before .before .args in
     let g = sym (c .before .before .reaches-entry .ensures) ∙ c .before .if1 .taken in
-    sym (find-here (a .records .now) (l .at) (l .left) (omega arith) (c .before .before .before .read .ensures) (a .stream) (pos (a .request)) g) ∙ l .inv .1
+    sym (find-here (a .table .now) (l .at) (l .left) (omega arith) (c .before .before .before .read .ensures) (a .stream) (pos (a .request)) g) ∙ l .inv .1
 
 add-at : tie.Need-add-at Inv-loop μ-loop
 add-at c = omega arith
@@ -52,13 +48,13 @@ loop-again c =
     let l = c .before .before .before .before .loop in
     let a = c .before .before .before .before .before .before .args in
     let g = sym (c .before .reaches-entry .ensures) ∙ c .if1 .left in
-    let on = find-on (a .records .now) (l .at) (l .left) (omega arith) (c .before .before .read .ensures) (a .stream) (pos (a .request)) g in
+    let on = find-on (a .table .now) (l .at) (l .left) (omega arith) (c .before .before .read .ensures) (a .stream) (pos (a .request)) g in
     (omega arith, sym on ∙ l .inv .1)
 
 returns-2 : tie.Need-returns-2 Inv-loop μ-loop
 unfolding find
 returns-2 c = let l = c .before .loop in
-    rw (entries-off (c .before .before .before .args .records .now) (l .at) (l .left) (omega arith)) at (l .inv .1)
+    rw (entries-off (c .before .before .before .args .table .now) (l .at) (l .left) (omega arith)) at (l .inv .1)
 
 pub find-entry-spec : {M : Type 1} → statement M
 find-entry-spec =

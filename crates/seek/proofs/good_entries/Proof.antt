@@ -12,18 +12,14 @@ use Rattle.seek.specs.Seek.{goodEntries}
 use Rattle.seek.proofs.Records.{entries-off, good-on, good-no}
 use Rattle.seek.proofs.good_entries.Statement.{statement}
 use Rattle.seek.proofs.good_entries.Tie as tie
-use Rattle.seek.proofs.good_entries.Reads as reads
-use Rattle.seek.proofs.good_entries.Lts as lts
-use Rattle.chunk_index.proofs.entry.ChunkIndexEntry.read.Reads as read-reads
-use Rattle.seek.proofs.good_entry.Reads as good-entry-reads
 
 abbrev Inv-loop : tie.InvT-loop
-Inv-loop records at₀ left₀ at left =
-    (at + left ≡ length records)
-    × (goodEntries at (entriesFrom (left / entryLen) records at) ≡ goodEntries 0 (entriesOf records))
+Inv-loop table at₀ left₀ at left =
+    (at + left ≡ length table)
+    × (goodEntries at (entriesFrom (left / entryLen) table at) ≡ goodEntries 0 (entriesOf table))
 
 abbrev μ-loop : tie.MeasureT-loop
-μ-loop records at₀ left₀ at left = left
+μ-loop table at₀ left₀ at left = left
 
 loop-holds : tie.Need-loop-holds Inv-loop μ-loop
 loop-holds c = (omega arith, refl)
@@ -37,7 +33,7 @@ good-entry-requires c κs = search needs
 returns : tie.Need-returns Inv-loop μ-loop
 returns c =
     let l = c .before .before .before .before .loop in
-    let t = c .before .before .before .before .before .before .args .records .now in
+    let t = c .before .before .before .before .before .before .args .table .now in
     let g = sym (c .before .good-entry .ensures) ∙ not-true _ (c .if1 .taken) in
     sym (good-no t (l .at) (l .left) (omega arith) (c .before .before .read .ensures) g) ∙ l .inv .1
 
@@ -50,14 +46,14 @@ loop-less c = omega arith
 loop-again : tie.Need-loop-again Inv-loop μ-loop
 loop-again c =
     let l = c .before .before .before .before .loop in
-    let t = c .before .before .before .before .before .before .args .records .now in
+    let t = c .before .before .before .before .before .before .args .table .now in
     let g = sym (c .before .good-entry .ensures) ∙ not-false _ (c .if1 .left) in
     (omega arith, sym (good-on t (l .at) (l .left) (omega arith) (c .before .before .read .ensures) g) ∙ l .inv .1)
 
 returns-2 : tie.Need-returns-2 Inv-loop μ-loop
 unfolding goodEntries
 returns-2 c = let l = c .before .loop in
-    rw (entries-off (c .before .before .before .args .records .now) (l .at) (l .left) (omega arith)) at (l .inv .1)
+    rw (entries-off (c .before .before .before .args .table .now) (l .at) (l .left) (omega arith)) at (l .inv .1)
 
 pub good-entries-spec : {M : Type 1} → statement M
 good-entries-spec =

@@ -5,8 +5,6 @@ use borrow.Author.Tests.{eq-eqb, ne-eqb}
 use Rattle.seek.proofs.Records.{good-many, good-few}
 use Rattle.seek.proofs.good_entry.Statement.{statement}
 use Rattle.seek.proofs.good_entry.Tie as tie
-use Rattle.seek.proofs.good_entry.Reads as reads
-use Rattle.seek.proofs.good_entry.Lts as lts
 
 returns : tie.Need-returns
 returns c = sym (good-many (c .before .before .before .args .e) (c .if1 .taken))

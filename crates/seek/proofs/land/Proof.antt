@@ -6,10 +6,6 @@ use Rattle.seek.proofs.Seeks.{land-at, land-nowhere}
 use borrow.Author.Needs.{needs}
 use Rattle.seek.proofs.land.Statement.{statement}
 use Rattle.seek.proofs.land.Tie as tie
-use Rattle.seek.proofs.land.Reads as reads
-use Rattle.seek.proofs.land.Lts as lts
-use Rattle.seek.proofs.beyond_last.Reads as beyond-last-reads
-use Rattle.seek.proofs.moved_to.Reads as moved-to-reads
 
 enum-known-found : tie.Need-enum-known-found
 enum-known-found c = search needs
@@ -29,14 +25,14 @@ moved-to-requires-2 c κs = search needs
 returns : tie.Need-returns
 returns c =
     let a = c .before .before .before .before .before .args in
-    c .moved-to .ensures ∙ sym (land-at (entriesOf (a .records .now)) (a .walker) (a .stream) (c .before .before .found .given .1))
+    c .moved-to .ensures ∙ sym (land-at (entriesOf (a .table .now)) (a .walker) (a .stream) (c .before .before .found .given .1))
 
 returns-2 : tie.Need-returns-2
 returns-2 c =
     let a = c .before .before .before .before .before .before .args in
     c .moved-to2 .ensures
     ∙ sym
-    (land-nowhere (entriesOf (a .records .now)) (a .walker) (a .stream) (c .before .before .before .enum-told .given .1) (c .before .beyond-last .ensures))
+    (land-nowhere (entriesOf (a .table .now)) (a .walker) (a .stream) (c .before .before .before .enum-told .given .1) (c .before .beyond-last .ensures))
 
 pub land-spec : {M : Type 1} → statement M
 land-spec =

@@ -15,8 +15,6 @@ use Rattle.fields.proofs.Impossible.{impossible}
 use Rattle.seek.specs.Steps.{least}
 use Rattle.seek.proofs.least_stamp.Statement.{statement}
 use Rattle.seek.proofs.least_stamp.Tie as tie
-use Rattle.seek.proofs.least_stamp.Reads as reads
-use Rattle.seek.proofs.least_stamp.Lts as lts
 
 below : (z : ℤ) → ltZ z (pos 0) ≡ true → 0 ≡ least z
 unfolding least

@@ -3,9 +3,6 @@
 use borrow.Author.Needs.{needs}
 use Rattle.seek.proofs.moved_to.Statement.{statement}
 use Rattle.seek.proofs.moved_to.Tie as tie
-use Rattle.seek.proofs.moved_to.Reads as reads
-use Rattle.seek.proofs.moved_to.Lts as lts
-use Rattle.seek.proofs.stamp_of.Reads as stamp-of-reads
 
 stamp-of-requires : tie.Need-stamp-of-requires
 stamp-of-requires c κs = search needs

@@ -6,10 +6,6 @@ use borrow.Author.Tests.{eq-eqb, ne-eqb}
 use borrow.Author.Needs.{needs}
 use Rattle.seek.proofs.reaches_entry.Statement.{statement}
 use Rattle.seek.proofs.reaches_entry.Tie as tie
-use Rattle.seek.proofs.reaches_entry.Reads as reads
-use Rattle.seek.proofs.reaches_entry.Lts as lts
-use Rattle.seek.proofs.stamp_of.Reads as stamp-of-reads
-use Rattle.chunk.proofs.stream_tag.Reads as stream-tag-reads
 
 stream-tag-requires : tie.Need-stream-tag-requires
 stream-tag-requires c κs = search needs

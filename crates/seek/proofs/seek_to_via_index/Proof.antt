@@ -13,12 +13,6 @@ use Rattle.seek.proofs.Seeks.{seek-refused, seek-lands}
 use borrow.Author.Needs.{needs}
 use Rattle.seek.proofs.seek_to_via_index.Statement.{statement}
 use Rattle.seek.proofs.seek_to_via_index.Tie as tie
-use Rattle.seek.proofs.seek_to_via_index.Reads as reads
-use Rattle.seek.proofs.seek_to_via_index.Lts as lts
-use Rattle.seek.proofs.ask_seek.Reads as ask-seek-reads
-use Rattle.seek.proofs.find_entry.Reads as find-entry-reads
-use Rattle.seek.proofs.land.Reads as land-reads
-use Rattle.seek.proofs.least_stamp.Reads as least-stamp-reads
 
 ask-seek-requires : tie.Need-ask-seek-requires
 ask-seek-requires c κs = search needs
@@ -41,7 +35,7 @@ land-requires c κs = search needs
 returns : tie.Need-returns
 returns c =
     let a = c .before .before .before .before .before .args in
-    sym (seek-refused (a .records .now) (a .walker) (a .stream) (a .request) (c .before .before .before .ask-seek .ensures) (c .before .e .given .1))
+    sym (seek-refused (a .table .now) (a .walker) (a .stream) (a .request) (c .before .before .before .ask-seek .ensures) (c .before .e .given .1))
 
 returns-2 : tie.Need-returns-2
 returns-2 c =
@@ -49,10 +43,10 @@ returns-2 c =
     let a = s .args in
     let r : c .before .before .least-stamp .result ≡ least (a .request) =
     c .before .before .least-stamp .ensures ∙ ap least (toZ-ofZ w64 (a .request) (s .fits .request)) in
-    let found = c .before .find-entry .ensures ∙ ap (λ (n : ℕ). find (a .stream) (pos n) (entriesOf (a .records .now))) r in
+    let found = c .before .find-entry .ensures ∙ ap (λ (n : ℕ). find (a .stream) (pos n) (entriesOf (a .table .now))) r in
     c .land .ensures
     ∙ sym
-    (seek-lands (a .records .now) (a .walker) (a .stream) (a .request) (c .before .before .before .before .before .ask-seek .ensures)
+    (seek-lands (a .table .now) (a .walker) (a .stream) (a .request) (c .before .before .before .before .before .ask-seek .ensures)
     (c .before .before .before .enum-told .given .1) found)
 
 pub seek-to-via-index-spec : {M : Type 1} → statement M

@@ -3,8 +3,6 @@
 use borrow.Author.Tests.{eq-eqb, ne-eqb}
 use Rattle.seek.proofs.stamp_of.Statement.{statement}
 use Rattle.seek.proofs.stamp_of.Tie as tie
-use Rattle.seek.proofs.stamp_of.Reads as reads
-use Rattle.seek.proofs.stamp_of.Lts as lts
 
 returns : tie.Need-returns
 returns c = rw (eq-eqb _ _ (c .if1 .taken))

@@ -8,9 +8,6 @@ use lib.ListN.{length, length-take, length-drop}
 use Rattle.demuxer.specs.Read.{payloadAt}
 use Rattle.walk.proofs.chunk_at.Statement.{statement}
 use Rattle.walk.proofs.chunk_at.Tie as tie
-use Rattle.walk.proofs.chunk_at.Reads as reads
-use Rattle.walk.proofs.chunk_at.Lts as lts
-use Rattle.fields.proofs.min.Reads as min-reads
 
 add-min : tie.Need-add-min
 add-min c = search needs

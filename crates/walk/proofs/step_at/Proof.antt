@@ -1,19 +1,13 @@
 -- `walk::step_at` meets its contract. Each arm is the step of the header that was found, and a header that is one lies in the file.
 -- Assumes nothing.
-use mathlib.Core.Path.{_≡_, sym, ap, _∙_}
+use mathlib.Core.Path.{sym, ap, _∙_}
 use native.Mathlib.Omega.{arith}
 use borrow.Author.Needs.{needs}
-use Rattle.demuxer.specs.Head.{headAt}
-use Rattle.demuxer.specs.declared.head.Head.{Head}
 use Rattle.walk.specs.Walk.{onHead, stepAt}
 use Rattle.walk.specs.declared.Step.the-variants as step
 use Rattle.walk.proofs.Walks.{trailer-there, video-there, audio-there}
 use Rattle.walk.proofs.step_at.Statement.{statement}
 use Rattle.walk.proofs.step_at.Tie as tie
-use Rattle.walk.proofs.step_at.Reads as reads
-use Rattle.walk.proofs.step_at.Lts as lts
-use Rattle.demuxer.proofs.head.head_at.Reads as head-at-reads
-use Rattle.walk.proofs.chunk_at.Reads as chunk-at-reads
 
 head-at-requires : tie.Need-head-at-requires
 head-at-requires c κs = search needs

@@ -65,7 +65,7 @@ use Rattle.error.specs.declared.AmvResult.{AmvResult}
 use Rattle.muxer.specs.Writer.{packetCall}
 use Rattle.muxer.specs.declared.Writer.{Writer}
 use Rattle.muxer.specs.declared.Wrote.{Wrote}
-use Rattle.amv.specs.Writer.{Writes}
+use Rattle.amv.specs.Writer.{MuxerWrites}
 use Rattle.amv.specs.declared.writer.AmvMuxer.{AmvMuxer}
 use Rattle.error.proofs.AmvResult as N
 use Rattle.muxer.proofs.Writer as K
@@ -79,7 +79,7 @@ use Rattle.amv.proofs.writer.AmvMuxer.write_packet.Symbol as callee-def
 use Rattle.amv.proofs.writer.AmvMuxer.write_packet.Symbol.{name as #callee}
 use Rattle.amv.proofs.writer.AmvMuxer.write_packet.Met as callee-thm
 use Rattle.amv.proofs.Walks.{lends-buffer-two, lends, unasked, told-last, meets-by}
-use Rattle.amv.proofs.Writers.{stateVal, writerVal, writerHolder, resultReturned, Left}
+use Rattle.amv.proofs.Writers.{stateVal, writerVal, writerHolder, resultReturned, SliceLeft}
 use Rattle.amv.proofs.plain.write_packet.Key.{name as #own}
 use Rattle.amv.proofs.plain.write_packet as own
 use Rattle.amv.proofs.plain.write_packet.Statement as stated
@@ -153,7 +153,7 @@ module _ {M : Type 1} (𝓤 : URA M) (H : Heap 𝓤) (A : Atoms 𝓤) (W : Given
     Ref ν l γ = ‵ (MutRef (named 0) (ν ∷ κ) T.the-row .own (record { ptr = (l, 0); name = γ; now = h }) (vptr l 0 ∷ []))
 
     abbrev Said : AmvResult → After → Type 0
-    Said t z = Writes (packetCall w (now p) n (now x)) t (z .0) (z .1)
+    Said t z = MuxerWrites (packetCall w (now p) n (now x)) t (z .0) (z .1)
 
     abbrev result : AmvResult → After → Wrote
     result t z = record { result = t; writer = z .0 .writer }
@@ -182,15 +182,15 @@ module _ {M : Type 1} (𝓤 : URA M) (H : Heap 𝓤) (A : Atoms 𝓤) (W : Given
 
     fins : (ν l : ℕ) (γ : GName) (ws : Lasts callee.ended (ν ∷ κ, (κ, (κ′, tt))) (to ν l γ .0 .3))
         → ent 𝓤 (sem 𝓤 H A (lasts callee.ended (ν ∷ κ, (κ, (κ′, tt))) (to ν l γ .0 .3) ws))
-        (mean 𝓤 H A (‵ (fres γ (T.the-row .coded .code (ws .0))) ⊛ Left x (ws .1 .0)))
+        (mean 𝓤 H A (‵ (fres γ (T.the-row .coded .code (ws .0))) ⊛ SliceLeft x (ws .1 .0)))
     fins ν l γ ws = qed W (‵ (lasts callee.ended (ν ∷ κ, (κ, (κ′, tt))) (to ν l γ .0 .3) ws) ∷ []) ∵ fsplit ! $ frame ! $ fsplit ! $ fsplit ! $
         move ! (1 ∷ []) $ feqL ! (λ e. check ! e $ keep ! (0 ∷ []) $ done !)
 
     ends : (t : AmvResult) (z : After) → Said t z
-        → ent 𝓤 (mean 𝓤 H A (‵ (N.the-row .own t (resultReturned 𝓤 H A W .val t ∷ [])) ⊛ Own (z .0) ⊛ ‵ (flft κ q) ⊛ Left x (z .1) ⊛ token ⊛ OwnP))
+        → ent 𝓤 (mean 𝓤 H A (‵ (N.the-row .own t (resultReturned 𝓤 H A W .val t ∷ [])) ⊛ Own (z .0) ⊛ ‵ (flft κ q) ⊛ SliceLeft x (z .1) ⊛ token ⊛ OwnP))
         (Post (res t z))
     ends t z e =
-        qed W (‵ (N.the-row .own t (resultReturned 𝓤 H A W .val t ∷ [])) ∷ Own (z .0) ∷ ‵ (flft κ q) ∷ Left x (z .1) ∷ token ∷ OwnP ∷ []) ∵
+        qed W (‵ (N.the-row .own t (resultReturned 𝓤 H A W .val t ∷ [])) ∷ Own (z .0) ∷ ‵ (flft κ q) ∷ SliceLeft x (z .1) ∷ token ∷ OwnP ∷ []) ∵
         peeks ! N.the-row (Is N.the-row) (shows 𝓤 H A N.the-row) t _ (λ ist. drop ! $
         peeks ! T.the-row (Is T.the-row) (shows 𝓤 H A T.the-row) (z .0) _ (λ ism. drop ! $ move ! (1 ∷ []) $ learn ! (λ same.
         suffices ! _ (ends-at 𝓤 H A own.ended stayed (own.clauses 𝓤 H A at-mem run) W (((κ, (κ′, tt)), (q, (q′, tt)), tt, a, vals), tt) (res t z) (result t z)
@@ -216,9 +216,9 @@ module _ {M : Type 1} (𝓤 : URA M) (H : Heap 𝓤) (A : Atoms 𝓤) (W : Given
           (tt, (tt, (record { fits = room .0 }, tt)))
           _ _ vp vn (shr-slice-lawful 𝓤 H A W (named 1) κ′ u8 .typed p (vp ∷ []) isp .0) (tt, record { fits = n-fits }))
           Start (token ⊛ OwnX ⊛ OwnP) OwnP token (λ ν l γ. raw (Callee .pre (to ν l γ))) (λ ν l γ. Callee .post (to ν l γ)) Said
-          (λ z. Left x (z .1)) Post takes gives (λ ν l γ. known (to ν l γ))
+          (λ z. SliceLeft x (z .1)) Post takes gives (λ ν l γ. known (to ν l γ))
           (λ ν l γ. told-last 𝓤 H A W callee.ended (callee.clauses 𝓤 H A at-mem run) (to ν l γ) (λ ws. (ws .0, ws .1 .0))
-          (λ z. ‵ (fres γ (T.the-row .coded .code (z .0))) ⊛ Left x (z .1)) Said (fins ν l γ) (λ t ws. id⊢ 𝓤 _)) ends
+          (λ z. ‵ (fres γ (T.the-row .coded .code (z .0))) ⊛ SliceLeft x (z .1)) Said (fins ν l γ) (λ t ws. id⊢ 𝓤 _)) ends
 
 pub write-packet-spec : {M : Type 1} → stated.statement M
 unfolding code.routine tablesOf

@@ -6,8 +6,6 @@ use borrow.Author.Needs.{needs}
 use Rattle.chunk.proofs.ChunkHeader.parse.Statement.{statement}
 use Rattle.chunk.proofs.ChunkHeader.parse.Tie as tie
 use Rattle.chunk.proofs.ChunkHeader.parse.Reads as reads
-use Rattle.chunk.proofs.ChunkHeader.parse.Lts as lts
-use Rattle.fields.proofs.read_u32_le.Reads as read-u32-le-reads
 
 returns : tie.Need-returns
 unfolding chunkHeaderOf

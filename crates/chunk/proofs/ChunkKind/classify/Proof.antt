@@ -3,8 +3,6 @@
 use borrow.Author.Tests.{eq-eqb, ne-eqb}
 use Rattle.chunk.proofs.ChunkKind.classify.Statement.{statement}
 use Rattle.chunk.proofs.ChunkKind.classify.Tie as tie
-use Rattle.chunk.proofs.ChunkKind.classify.Reads as reads
-use Rattle.chunk.proofs.ChunkKind.classify.Lts as lts
 
 returns : tie.Need-returns
 returns c = simp (eq-eqb _ _ (c .if1 .taken))

@@ -5,9 +5,6 @@ use mathlib.Core.Path.{sym, _∙_}
 use borrow.Author.Needs.{needs}
 use Rattle.chunk.proofs.interleave.interleave_at.Statement.{statement}
 use Rattle.chunk.proofs.interleave.interleave_at.Tie as tie
-use Rattle.chunk.proofs.interleave.interleave_at.Reads as reads
-use Rattle.chunk.proofs.interleave.interleave_at.Lts as lts
-use Rattle.chunk.proofs.ChunkKind.classify.Reads as classify-reads
 
 classify-requires : tie.Need-classify-requires
 classify-requires c κs = search needs

@@ -14,9 +14,6 @@ use Rattle.chunk.specs.Interleave.{interleave, interleaveFrom, even}
 use Rattle.chunk.proofs.Interleaves.{interleave-on, interleave-no, interleave-end}
 use Rattle.chunk.proofs.interleave.validate_movi_interleave.Statement.{statement}
 use Rattle.chunk.proofs.interleave.validate_movi_interleave.Tie as tie
-use Rattle.chunk.proofs.interleave.validate_movi_interleave.Reads as reads
-use Rattle.chunk.proofs.interleave.validate_movi_interleave.Lts as lts
-use Rattle.chunk.proofs.interleave.interleave_at.Reads as interleave-at-reads
 
 abbrev Inv-loop : tie.InvT-loop
 Inv-loop tags i₀ i = (i ≤ length tags) × (interleaveFrom i (drop i tags) ≡ interleave tags)

@@ -1,12 +1,10 @@
 -- `chunk_index::index::ask_known` meets its contract. Each arm is the definition's case of the stop that was matched.
 -- Assumes nothing.
-use mathlib.Core.Path.{_≡_, sym, ap}
+use mathlib.Core.Path.{sym, ap}
 use Rattle.chunk_index.specs.Index.{stopKnown}
 use borrow.Author.Needs.{needs}
 use Rattle.chunk_index.proofs.index.ask_known.Statement.{statement}
 use Rattle.chunk_index.proofs.index.ask_known.Tie as tie
-use Rattle.chunk_index.proofs.index.ask_known.Reads as reads
-use Rattle.chunk_index.proofs.index.ask_known.Lts as lts
 
 enum-told : tie.Need-enum-told
 enum-told c = search needs

@@ -8,22 +8,18 @@ use borrow.Author.Tests.{leb-true, not-true, not-false}
 use Rattle.error.specs.Answer.{accepted}
 use Rattle.fields.specs.File.{withinLimit}
 use Rattle.chunk_index.specs.Index.{Built, saidIndex}
-use Rattle.chunk_index.proofs.Building.{total, build-limit, build-refused, counted-all, build-short, build-room}
+use Rattle.chunk_index.specs.Steps.{countRecords}
+use Rattle.chunk_index.proofs.Building.{build-limit, build-refused, counted-all, build-short, build-room}
 use borrow.Author.Needs.{needs}
 use Rattle.chunk_index.proofs.index.build_chunk_index.Statement.{statement}
 use Rattle.chunk_index.proofs.index.build_chunk_index.Tie as tie
-use Rattle.chunk_index.proofs.index.build_chunk_index.Reads as reads
-use Rattle.chunk_index.proofs.index.build_chunk_index.Lts as lts
-use Rattle.chunk_index.proofs.index.count_records.Reads as count-records-reads
-use Rattle.chunk_index.proofs.index.write_records.Reads as write-records-reads
-use Rattle.fields.proofs.file.within_limit.Reads as within-limit-reads
 
 -- the file is within the limit, and all its records were counted
 limit : (c : tie.Else1) → withinLimit (c .before .before .before .before .args .file .now) ≡ true
 limit c = sym (c .before .within-limit .ensures) ∙ not-false _ (c .if1 .left)
 
 all : (c : tie.After-count)
-    → total (c .before .before .before .before .before .before .before .args .file .now) ≡ accepted (c .count .given .0 .0)
+    → countRecords (c .before .before .before .before .before .before .before .args .file .now) ≡ accepted (c .count .given .0 .0)
 all c = sym (c .before .before .count-records .ensures) ∙ ap saidIndex (c .count .given .1)
 
 within-limit-requires : tie.Need-within-limit-requires

@@ -2,8 +2,7 @@
 -- them, and the tags from here on are what is left of the question. The measure is the bytes from here on, of which each chunk takes 8.
 -- Assumes nothing.
 use mathlib.Core.Path.{_≡_, refl, sym, _∙_}
-use mathlib.Core.Bool.{true}
-use Prim.Native.Nat.{ℕ, _-_}
+use Prim.Native.Nat.{_-_}
 use native.Mathlib.Omega.{arith}
 use borrow.Author.Needs.{needs}
 use borrow.Author.Tests.{not-true, not-false}
@@ -12,16 +11,9 @@ use Rattle.error.specs.Answer.{accepted}
 use Rattle.error.proofs.Answers.{then-ok, then-err}
 use Rattle.walk.specs.Walk.{stop, walk}
 use Rattle.walk.proofs.Walks.{Goes, step-means}
-use Rattle.chunk_index.specs.Steps.{recordedAt}
 use Rattle.chunk_index.proofs.Counting.{headers-stop, headers-end, Counting, counting-start, counting-on, counted-stop, counted-end}
 use Rattle.chunk_index.proofs.index.count_records.Statement.{statement}
 use Rattle.chunk_index.proofs.index.count_records.Tie as tie
-use Rattle.chunk_index.proofs.index.count_records.Reads as reads
-use Rattle.chunk_index.proofs.index.count_records.Lts as lts
-use Rattle.chunk.proofs.advance_total.Reads as advance-total-reads
-use Rattle.chunk_index.proofs.index.ask_known.Reads as ask-known-reads
-use Rattle.chunk_index.proofs.index.recorded.Reads as recorded-reads
-use Rattle.walk.proofs.step_at.Reads as step-at-reads
 
 abbrev Inv-loop : tie.InvT-loop
 Inv-loop file at₀ count₀ at count = Counting file at count

@@ -1,16 +1,13 @@
 -- `chunk_index::index::recorded` meets its contract. The kind that was matched fixes the question, which for sound is the code's own test.
 -- Assumes nothing.
 use Prim.Native.Nat.{ℕ, _+_}
-use mathlib.Core.Path.{_≡_, sym, ap, _∙_}
+use mathlib.Core.Path.{sym, ap, _∙_}
 use lib.Dec.{leb}
 use Rattle.chunk_index.specs.Steps.{recordedBy}
 use Rattle.walk.specs.declared.Kind.{Kind}
 use borrow.Author.Needs.{needs}
 use Rattle.chunk_index.proofs.index.recorded.Statement.{statement}
 use Rattle.chunk_index.proofs.index.recorded.Tie as tie
-use Rattle.chunk_index.proofs.index.recorded.Reads as reads
-use Rattle.chunk_index.proofs.index.recorded.Lts as lts
-use Rattle.fields.proofs.min.Reads as min-reads
 
 enum-told : tie.Need-enum-told
 enum-told c = search needs

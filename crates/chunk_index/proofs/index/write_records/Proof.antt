@@ -1,8 +1,9 @@
 -- `chunk_index::index::write_records` meets its contract. The invariant: putting the records of the walk from here on at `to` makes the whole
 -- table, which has room for them. The measure is the bytes of the file from here on, of which each chunk takes 8.
 -- Assumes nothing.
-use mathlib.Core.Path.{_≡_, refl, sym, ap, _∙_, subst}
-use Prim.Native.Nat.{ℕ, _-_}
+use mathlib.Core.Path.{_≡_, refl, sym, _∙_, subst}
+use mathlib.Core.Bool.{true}
+use Prim.Native.Nat.{_-_}
 use native.Mathlib.Omega.{arith}
 use borrow.Author.Needs.{needs}
 use borrow.Author.Tests.{not-true, not-false}
@@ -10,18 +11,11 @@ use lib.ListN.{length}
 use Rattle.walk.specs.Steps.{Walked}
 use Rattle.walk.proofs.Walked.{walked-start}
 use Rattle.walk.proofs.Walks.{Goes, step-means, past-cursor}
+use Rattle.chunk_index.specs.Steps.{recordedAt}
 use Rattle.chunk_index.proofs.Folds.{records-stop, records-end}
 use Rattle.chunk_index.proofs.Writing.{Writing, walked-small, write-end, write-room, write-more}
 use Rattle.chunk_index.proofs.index.write_records.Statement.{statement}
 use Rattle.chunk_index.proofs.index.write_records.Tie as tie
-use Rattle.chunk_index.proofs.index.write_records.Reads as reads
-use Rattle.chunk_index.proofs.index.write_records.Lts as lts
-use Rattle.chunk_index.proofs.entry.ChunkIndexEntry.write.Reads as write-reads
-use Rattle.chunk_index.proofs.index.recorded.Reads as recorded-reads
-use Rattle.demuxer.proofs.position.Position.new.Reads as new-reads
-use Rattle.walk.proofs.ChunkAt.past.Reads as past-reads
-use Rattle.walk.proofs.Kind.tag.Reads as tag-reads
-use Rattle.walk.proofs.step_at.Reads as step-at-reads
 
 abbrev Inv-loop : tie.InvT-loop
 Inv-loop file table₀ position₀ to₀ table position to = Writing file table₀ table position to
@@ -34,6 +28,10 @@ found : (c : tie.After-chunk Inv-loop μ-loop)
     → Goes (c .before .before .before .before .before .before .before .args .file .now) (c .before .before .before .loop .position .cursor)
     (c .chunk .given .0 .0)
 found c = step-means _ _ _ (sym (c .before .before .step-at .ensures) ∙ c .chunk .given .1)
+
+-- and that it gets a record
+taken : (c : tie.Else1 Inv-loop μ-loop) → recordedAt (c .before .before .before .chunk .given .0 .0) ≡ true
+taken c = sym (c .before .recorded .ensures) ∙ not-false _ (c .if1 .left)
 
 new-requires : tie.Need-new-requires Inv-loop μ-loop
 new-requires c κs = search needs
@@ -80,7 +78,7 @@ write-requires c κs =
     let s = c .before .before .before .before .before in
     let l = s .before .before .before .loop in
     let g = found s in
-    let r = sym (c .before .before .before .recorded .ensures) ∙ not-false _ (c .before .before .if1 .left) in (
+    let r = taken (c .before .before) in (
       write-room (l .inv) g r,
       walked-small (l .position) (l .inv .walked) (omega (arith, g .there, s .before .before .before .before .before .before .before .pre .0)),
     )
@@ -96,7 +94,7 @@ add-to : tie.Need-add-to Inv-loop μ-loop
 add-to c =
     let s = c .before .before .before .before .before .before .before .before .before in
     let l = s .before .before .before .loop in
-    let r = sym (c .before .before .before .before .before .before .before .recorded .ensures) ∙ not-false _ (c .before .before .before .before .before .before .if1 .left) in
+    let r = taken (c .before .before .before .before .before .before) in
     omega (arith, write-room (l .inv) (found s) r, l .inv .kept)
 
 loop-less : tie.Need-loop-less Inv-loop μ-loop
@@ -110,7 +108,7 @@ loop-again : tie.Need-loop-again Inv-loop μ-loop
 loop-again c =
     let s = c .before .before .before .before .before .before .before .before .before in
     let l = s .before .before .before .loop in
-    let r = sym (c .before .before .before .before .before .before .before .recorded .ensures) ∙ not-false _ (c .before .before .before .before .before .before .if1 .left) in
+    let r = taken (c .before .before .before .before .before .before) in
     rw (c .before .before .before .write .ensures, c .before .before .before .before .before .tag .ensures, c .past .ensures .0)
     (write-more (l .inv) (found s) r (subst Walked (c .past .ensures .0) (c .past .ensures .1)))
 

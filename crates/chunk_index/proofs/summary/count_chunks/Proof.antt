@@ -15,13 +15,6 @@ use Rattle.chunk_index.proofs.Counting.{headers-stop, headers-end}
 use Rattle.chunk_index.proofs.Summing.{Summing, summing-start, summing-on, summed-stop, summed-end}
 use Rattle.chunk_index.proofs.summary.count_chunks.Statement.{statement}
 use Rattle.chunk_index.proofs.summary.count_chunks.Tie as tie
-use Rattle.chunk_index.proofs.summary.count_chunks.Reads as reads
-use Rattle.chunk_index.proofs.summary.count_chunks.Lts as lts
-use Rattle.chunk.proofs.advance_total.Reads as advance-total-reads
-use Rattle.chunk_index.proofs.index.ask_known.Reads as ask-known-reads
-use Rattle.chunk_index.proofs.index.recorded.Reads as recorded-reads
-use Rattle.chunk_index.proofs.summary.ChunkCounts.counted.Reads as counted-reads
-use Rattle.walk.proofs.step_at.Reads as step-at-reads
 
 abbrev Inv-loop : tie.InvT-loop
 Inv-loop file at₀ counts₀ at counts = Summing file at counts

@@ -1,15 +1,11 @@
 -- `chunk_index::summary::summary` meets its contract. Within the limit the answer is the count's; above it, 10.
 -- Assumes nothing.
-use mathlib.Core.Path.{_≡_, sym, _∙_}
+use mathlib.Core.Path.{sym, _∙_}
 use borrow.Author.Tests.{leb-true}
 use Rattle.chunk_index.specs.Summary.{summaryOf}
 use borrow.Author.Needs.{needs}
 use Rattle.chunk_index.proofs.summary.summary.Statement.{statement}
 use Rattle.chunk_index.proofs.summary.summary.Tie as tie
-use Rattle.chunk_index.proofs.summary.summary.Reads as reads
-use Rattle.chunk_index.proofs.summary.summary.Lts as lts
-use Rattle.chunk_index.proofs.summary.count_chunks.Reads as count-chunks-reads
-use Rattle.fields.proofs.file.within_limit.Reads as within-limit-reads
 
 within-limit-requires : tie.Need-within-limit-requires
 within-limit-requires c κs = search needs

@@ -5,12 +5,10 @@ use Prim.Native.Nat.{_+_}
 use native.Mathlib.Omega.{arith}
 use borrow.Author.Tests.{le-leb, lt-leb}
 use lib.ListN.{length}
-use Rattle.demuxer.specs.Head.{bodyAt}
+use Rattle.demuxer.specs.Steps.{bodyAt}
 use borrow.Author.Needs.{needs}
 use Rattle.demuxer.proofs.head.body_at.Statement.{statement}
 use Rattle.demuxer.proofs.head.body_at.Tie as tie
-use Rattle.demuxer.proofs.head.body_at.Reads as reads
-use Rattle.demuxer.proofs.head.body_at.Lts as lts
 
 returns : tie.Need-returns
 unfolding bodyAt

@@ -4,9 +4,6 @@ use mathlib.Core.Path.{sym, _∙_}
 use borrow.Author.Needs.{needs}
 use Rattle.demuxer.proofs.head.chunk_head.Statement.{statement}
 use Rattle.demuxer.proofs.head.chunk_head.Tie as tie
-use Rattle.demuxer.proofs.head.chunk_head.Reads as reads
-use Rattle.demuxer.proofs.head.chunk_head.Lts as lts
-use Rattle.chunk.proofs.ChunkKind.classify.Reads as classify-reads
 
 classify-requires : tie.Need-classify-requires
 classify-requires c κs = search needs

@@ -11,11 +11,6 @@ use Rattle.demuxer.proofs.Heads.{head-trailer, head-chunk}
 use borrow.Author.Needs.{needs}
 use Rattle.demuxer.proofs.head.head_at.Statement.{statement}
 use Rattle.demuxer.proofs.head.head_at.Tie as tie
-use Rattle.demuxer.proofs.head.head_at.Reads as reads
-use Rattle.demuxer.proofs.head.head_at.Lts as lts
-use Rattle.demuxer.proofs.head.chunk_head.Reads as chunk-head-reads
-use Rattle.demuxer.proofs.head.is_trailer.Reads as is-trailer-reads
-use Rattle.fields.proofs.read_u32_le.Reads as read-u32-le-reads
 
 returns : tie.Need-returns
 unfolding headAt

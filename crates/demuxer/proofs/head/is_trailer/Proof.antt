@@ -3,8 +3,6 @@
 use borrow.Author.Tests.{eq-eqb, ne-eqb}
 use Rattle.demuxer.proofs.head.is_trailer.Statement.{statement}
 use Rattle.demuxer.proofs.head.is_trailer.Tie as tie
-use Rattle.demuxer.proofs.head.is_trailer.Reads as reads
-use Rattle.demuxer.proofs.head.is_trailer.Lts as lts
 
 returns : tie.Need-returns
 returns c = rw (ne-eqb _ _ (c .if1 .taken))

@@ -2,8 +2,7 @@
 -- start to end is as long as the packet says.
 -- Assumes nothing.
 use mathlib.Core.Path.{_≡_}
-use Prim.Native.Nat.{_-_}
-use Prim.Native.Nat.{_+_}
+use Prim.Native.Nat.{_-_, _+_}
 use native.Mathlib.Omega.{arith}
 use borrow.Author.Tests.{le-leb, lt-leb}
 use lib.ListN.{length}
@@ -11,8 +10,6 @@ use Rattle.demuxer.specs.Packet.{payloadOf}
 use borrow.Author.Needs.{needs}
 use Rattle.demuxer.proofs.packet.payload.Statement.{statement}
 use Rattle.demuxer.proofs.packet.payload.Tie as tie
-use Rattle.demuxer.proofs.packet.payload.Reads as reads
-use Rattle.demuxer.proofs.packet.payload.Lts as lts
 
 sub-result : tie.Need-sub-result
 sub-result c = search needs

@@ -3,8 +3,6 @@
 use borrow.Author.Tests.{eq-eqb, ne-eqb}
 use Rattle.demuxer.proofs.packet.shown.Statement.{statement}
 use Rattle.demuxer.proofs.packet.shown.Tie as tie
-use Rattle.demuxer.proofs.packet.shown.Reads as reads
-use Rattle.demuxer.proofs.packet.shown.Lts as lts
 
 returns : tie.Need-returns
 returns c = rw (eq-eqb _ _ (c .if1 .taken))

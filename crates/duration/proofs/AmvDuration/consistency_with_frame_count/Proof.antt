@@ -9,11 +9,6 @@ use Rattle.duration.proofs.AmvDuration.consistency_with_frame_count.Sta
   statement,
 }
 use Rattle.duration.proofs.AmvDuration.consistency_with_frame_count.Tie as tie
-use Rattle.duration.proofs.AmvDuration.consistency_with_frame_count.Reads as reads
-use Rattle.duration.proofs.AmvDuration.consistency_with_frame_count.Lts as lts
-use Rattle.duration.proofs.AmvDuration.equals.Reads as equals-reads
-use Rattle.duration.proofs.AmvDuration.from_frame_count.Reads as from-frame-count-reads
-use Rattle.duration.proofs.AmvDuration.total_seconds.Reads as total-seconds-reads
 
 from-frame-count-requires : tie.Need-from-frame-count-requires
 from-frame-count-requires c κs = search needs

@@ -6,8 +6,6 @@ use Rattle.duration.proofs.Durations.{same-hours}
 use borrow.Author.Tests.{eq-eqb, ne-eqb}
 use Rattle.duration.proofs.AmvDuration.equals.Statement.{statement}
 use Rattle.duration.proofs.AmvDuration.equals.Tie as tie
-use Rattle.duration.proofs.AmvDuration.equals.Reads as reads
-use Rattle.duration.proofs.AmvDuration.equals.Lts as lts
 
 returns : tie.Need-returns
 returns c = simp (ne-eqb _ _ (c .if1 .taken))

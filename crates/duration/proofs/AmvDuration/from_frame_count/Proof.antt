@@ -6,9 +6,6 @@ use Rattle.duration.specs.Duration.{runLength}
 use borrow.Author.Needs.{needs}
 use Rattle.duration.proofs.AmvDuration.from_frame_count.Statement.{statement}
 use Rattle.duration.proofs.AmvDuration.from_frame_count.Tie as tie
-use Rattle.duration.proofs.AmvDuration.from_frame_count.Reads as reads
-use Rattle.duration.proofs.AmvDuration.from_frame_count.Lts as lts
-use Rattle.duration.proofs.AmvDuration.from_seconds.Reads as from-seconds-reads
 
 returns : tie.Need-returns
 unfolding runLength

@@ -4,13 +4,11 @@
 use mathlib.Core.Path.{_≡_}
 use Prim.Native.Nat.{_%_, _/_}
 use Rattle.fields.specs.Le.{leBytes}
-use Rattle.duration.specs.Duration.{durationOf}
+use Rattle.duration.specs.Duration.{unpackedOf}
 use native.Mathlib.Omega.{arith}
 use borrow.Author.Needs.{needs}
 use Rattle.duration.proofs.AmvDuration.from_packed.Statement.{statement}
 use Rattle.duration.proofs.AmvDuration.from_packed.Tie as tie
-use Rattle.duration.proofs.AmvDuration.from_packed.Reads as reads
-use Rattle.duration.proofs.AmvDuration.from_packed.Lts as lts
 
 cast-t3 : tie.Need-cast-t3
 cast-t3 c = search needs
@@ -22,7 +20,7 @@ cast-t9 : tie.Need-cast-t9
 cast-t9 c = search needs
 
 returns : tie.Need-returns
-unfolding durationOf leBytes
+unfolding unpackedOf leBytes
 returns c = let p = c .args .packed in
     let h : p / 65536 % 256 ≡ p / 256 / 256 % 256 = omega arith in
     λ i. record { seconds = p % 256; minutes = p / 256 % 256; hours = h i }

@@ -5,9 +5,6 @@ use Rattle.duration.specs.Duration.{ofSeconds}
 use borrow.Author.Needs.{needs}
 use Rattle.duration.proofs.AmvDuration.from_seconds.Statement.{statement}
 use Rattle.duration.proofs.AmvDuration.from_seconds.Tie as tie
-use Rattle.duration.proofs.AmvDuration.from_seconds.Reads as reads
-use Rattle.duration.proofs.AmvDuration.from_seconds.Lts as lts
-use Rattle.fields.proofs.min.Reads as min-reads
 
 min-requires : tie.Need-min-requires
 min-requires c κs = search needs

@@ -6,10 +6,6 @@ use Rattle.duration.proofs.AmvDuration.is_consistent_with_frame_count.S
   statement,
 }
 use Rattle.duration.proofs.AmvDuration.is_consistent_with_frame_count.Tie as tie
-use Rattle.duration.proofs.AmvDuration.is_consistent_with_frame_count.Reads as reads
-use Rattle.duration.proofs.AmvDuration.is_consistent_with_frame_count.Lts as lts
-use Rattle.duration.proofs.AmvDuration.equals.Reads as equals-reads
-use Rattle.duration.proofs.AmvDuration.from_frame_count.Reads as from-frame-count-reads
 
 from-frame-count-requires : tie.Need-from-frame-count-requires
 from-frame-count-requires c κs = search needs

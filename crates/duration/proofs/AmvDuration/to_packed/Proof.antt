@@ -7,8 +7,6 @@ use native.Mathlib.Omega.{arith}
 use borrow.Author.Needs.{needs}
 use Rattle.duration.proofs.AmvDuration.to_packed.Statement.{statement}
 use Rattle.duration.proofs.AmvDuration.to_packed.Tie as tie
-use Rattle.duration.proofs.AmvDuration.to_packed.Reads as reads
-use Rattle.duration.proofs.AmvDuration.to_packed.Lts as lts
 
 cast-result : tie.Need-cast-result
 cast-result c = search needs

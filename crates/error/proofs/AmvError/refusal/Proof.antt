@@ -6,8 +6,6 @@ use Rattle.error.specs.declared.AmvError.{AmvError}
 use borrow.Author.Needs.{needs}
 use Rattle.error.proofs.AmvError.refusal.Statement.{statement}
 use Rattle.error.proofs.AmvError.refusal.Tie as tie
-use Rattle.error.proofs.AmvError.refusal.Reads as reads
-use Rattle.error.proofs.AmvError.refusal.Lts as lts
 
 -- the refusal of a case is the definition's line for it
 is : {e x : AmvError} → e ≡ x → refusalOf x ≡ refusalOf e

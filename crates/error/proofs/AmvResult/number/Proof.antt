@@ -7,9 +7,6 @@ use Rattle.error.specs.Refusal.{said}
 use borrow.Author.Needs.{needs}
 use Rattle.error.proofs.AmvResult.number.Statement.{statement}
 use Rattle.error.proofs.AmvResult.number.Tie as tie
-use Rattle.error.proofs.AmvResult.number.Reads as reads
-use Rattle.error.proofs.AmvResult.number.Lts as lts
-use Rattle.error.proofs.AmvError.number.Reads as number-reads
 
 enum-told : tie.Need-enum-told
 enum-told c = search needs

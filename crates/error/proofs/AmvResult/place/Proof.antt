@@ -7,9 +7,6 @@ use Rattle.error.specs.Refusal.{said}
 use borrow.Author.Needs.{needs}
 use Rattle.error.proofs.AmvResult.place.Statement.{statement}
 use Rattle.error.proofs.AmvResult.place.Tie as tie
-use Rattle.error.proofs.AmvResult.place.Reads as reads
-use Rattle.error.proofs.AmvResult.place.Lts as lts
-use Rattle.error.proofs.AmvError.place.Reads as place-reads
 
 enum-told : tie.Need-enum-told
 enum-told c = search needs

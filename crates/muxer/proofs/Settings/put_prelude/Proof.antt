@@ -12,10 +12,6 @@ use Rattle.prelude.proofs.BuiltLaws.{length-prelude}
 use borrow.Author.Needs.{needs}
 use Rattle.muxer.proofs.Settings.put_prelude.Statement.{statement}
 use Rattle.muxer.proofs.Settings.put_prelude.Tie as tie
-use Rattle.muxer.proofs.Settings.put_prelude.Reads as reads
-use Rattle.muxer.proofs.Settings.put_prelude.Lts as lts
-use Rattle.fields.proofs.copy_in.Reads as copy-in-reads
-use Rattle.prelude.proofs.build.build_prelude_bytes.Reads as build-prelude-bytes-reads
 
 build-prelude-bytes-requires : tie.Need-build-prelude-bytes-requires
 build-prelude-bytes-requires c κs = search needs

@@ -4,10 +4,6 @@
 use borrow.Author.Needs.{needs}
 use Rattle.muxer.proofs.Writer.after_packet.Statement.{statement}
 use Rattle.muxer.proofs.Writer.after_packet.Tie as tie
-use Rattle.muxer.proofs.Writer.after_packet.Reads as reads
-use Rattle.muxer.proofs.Writer.after_packet.Lts as lts
-use Rattle.muxer.proofs.frames_after.Reads as frames-after-reads
-use Rattle.muxer.proofs.packet_len.Reads as packet-len-reads
 
 packet-len-requires : tie.Need-packet-len-requires
 packet-len-requires c κs = search needs

@@ -6,9 +6,6 @@ use Rattle.muxer.specs.Writer.{headerQuestions}
 use borrow.Author.Needs.{needs}
 use Rattle.muxer.proofs.Writer.ask_header.Statement.{statement}
 use Rattle.muxer.proofs.Writer.ask_header.Tie as tie
-use Rattle.muxer.proofs.Writer.ask_header.Reads as reads
-use Rattle.muxer.proofs.Writer.ask_header.Lts as lts
-use Rattle.muxer.proofs.has_room.Reads as has-room-reads
 
 returns : tie.Need-returns
 unfolding headerQuestions

@@ -6,8 +6,6 @@ use Rattle.prelude.specs.Layout.{preludeLen}
 use borrow.Author.Tests.{le-leb, lt-leb, not-true, not-false}
 use Rattle.muxer.proofs.Writer.ask_open.Statement.{statement}
 use Rattle.muxer.proofs.Writer.ask_open.Tie as tie
-use Rattle.muxer.proofs.Writer.ask_open.Reads as reads
-use Rattle.muxer.proofs.Writer.ask_open.Lts as lts
 
 returns : tie.Need-returns
 returns c = rw (not-true (c .before .before .args .self .begun) (c .if1 .taken))

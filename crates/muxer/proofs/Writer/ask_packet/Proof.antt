@@ -11,11 +11,6 @@ use Rattle.muxer.proofs.Steps.{open-ok, open-err}
 use borrow.Author.Needs.{needs}
 use Rattle.muxer.proofs.Writer.ask_packet.Statement.{statement}
 use Rattle.muxer.proofs.Writer.ask_packet.Tie as tie
-use Rattle.muxer.proofs.Writer.ask_packet.Reads as reads
-use Rattle.muxer.proofs.Writer.ask_packet.Lts as lts
-use Rattle.muxer.proofs.Writer.ask_open.Reads as ask-open-reads
-use Rattle.muxer.proofs.has_room.Reads as has-room-reads
-use Rattle.muxer.proofs.packet_len.Reads as packet-len-reads
 
 ask-open-requires : tie.Need-ask-open-requires
 ask-open-requires c κs = search needs

@@ -7,10 +7,6 @@ use Rattle.muxer.proofs.Steps.{open-ok, open-err}
 use borrow.Author.Needs.{needs}
 use Rattle.muxer.proofs.Writer.ask_trailer.Statement.{statement}
 use Rattle.muxer.proofs.Writer.ask_trailer.Tie as tie
-use Rattle.muxer.proofs.Writer.ask_trailer.Reads as reads
-use Rattle.muxer.proofs.Writer.ask_trailer.Lts as lts
-use Rattle.muxer.proofs.Writer.ask_open.Reads as ask-open-reads
-use Rattle.muxer.proofs.has_room.Reads as has-room-reads
 
 ask-open-requires : tie.Need-ask-open-requires
 ask-open-requires c κs = search needs

@@ -10,11 +10,6 @@ use Rattle.muxer.specs.Writer.{patchRunLength}
 use borrow.Author.Needs.{needs}
 use Rattle.muxer.proofs.Writer.patch_run_length.Statement.{statement}
 use Rattle.muxer.proofs.Writer.patch_run_length.Tie as tie
-use Rattle.muxer.proofs.Writer.patch_run_length.Reads as reads
-use Rattle.muxer.proofs.Writer.patch_run_length.Lts as lts
-use Rattle.duration.proofs.AmvDuration.from_frame_count.Reads as from-frame-count-reads
-use Rattle.duration.proofs.AmvDuration.to_packed.Reads as to-packed-reads
-use Rattle.fields.proofs.write_u32_le.Reads as write-u32-le-reads
 
 returns : tie.Need-returns
 unfolding patchRunLength

@@ -8,13 +8,6 @@ use Rattle.muxer.proofs.Steps as steps
 use borrow.Author.Needs.{needs}
 use Rattle.muxer.proofs.Writer.write_header.Statement.{statement}
 use Rattle.muxer.proofs.Writer.write_header.Tie as tie
-use Rattle.muxer.proofs.Writer.write_header.Reads as reads
-use Rattle.muxer.proofs.Writer.write_header.Lts as lts
-use Rattle.muxer.proofs.Settings.put_prelude.Reads as put-prelude-reads
-use Rattle.muxer.proofs.Wrote.accepted.Reads as accepted-reads
-use Rattle.muxer.proofs.Writer.after_header.Reads as after-header-reads
-use Rattle.muxer.proofs.Writer.ask_header.Reads as ask-header-reads
-use Rattle.muxer.proofs.Wrote.refused.Reads as refused-reads
 
 ask-header-requires : tie.Need-ask-header-requires
 ask-header-requires c κs = search needs

@@ -8,13 +8,6 @@ use Rattle.muxer.proofs.Steps as steps
 use borrow.Author.Needs.{needs}
 use Rattle.muxer.proofs.Writer.write_packet.Statement.{statement}
 use Rattle.muxer.proofs.Writer.write_packet.Tie as tie
-use Rattle.muxer.proofs.Writer.write_packet.Reads as reads
-use Rattle.muxer.proofs.Writer.write_packet.Lts as lts
-use Rattle.muxer.proofs.Wrote.accepted.Reads as accepted-reads
-use Rattle.muxer.proofs.Writer.after_packet.Reads as after-packet-reads
-use Rattle.muxer.proofs.Writer.ask_packet.Reads as ask-packet-reads
-use Rattle.muxer.proofs.Wrote.refused.Reads as refused-reads
-use Rattle.muxer.proofs.put_packet.Reads as put-packet-reads
 
 ask-packet-requires : tie.Need-ask-packet-requires
 ask-packet-requires c κs = search needs

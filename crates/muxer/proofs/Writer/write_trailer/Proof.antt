@@ -12,14 +12,6 @@ use Rattle.muxer.proofs.Steps as steps
 use borrow.Author.Needs.{needs}
 use Rattle.muxer.proofs.Writer.write_trailer.Statement.{statement}
 use Rattle.muxer.proofs.Writer.write_trailer.Tie as tie
-use Rattle.muxer.proofs.Writer.write_trailer.Reads as reads
-use Rattle.muxer.proofs.Writer.write_trailer.Lts as lts
-use Rattle.muxer.proofs.Wrote.accepted.Reads as accepted-reads
-use Rattle.muxer.proofs.Writer.after_trailer.Reads as after-trailer-reads
-use Rattle.muxer.proofs.Writer.ask_trailer.Reads as ask-trailer-reads
-use Rattle.muxer.proofs.Writer.patch_run_length.Reads as patch-run-length-reads
-use Rattle.muxer.proofs.Wrote.refused.Reads as refused-reads
-use Rattle.muxer.proofs.put_trailer.Reads as put-trailer-reads
 
 ask-trailer-requires : tie.Need-ask-trailer-requires
 ask-trailer-requires c κs = search needs

@@ -5,9 +5,6 @@ use Rattle.parse.specs.WaveFormat.{cbSizeOf}
 use borrow.Author.Needs.{needs}
 use Rattle.parse.proofs.wave_format.cb_size.Statement.{statement}
 use Rattle.parse.proofs.wave_format.cb_size.Tie as tie
-use Rattle.parse.proofs.wave_format.cb_size.Reads as reads
-use Rattle.parse.proofs.wave_format.cb_size.Lts as lts
-use Rattle.fields.proofs.read_u16_le.Reads as read-u16-le-reads
 
 read-u16-le-requires : tie.Need-read-u16-le-requires
 read-u16-le-requires c κs = search needs

@@ -12,11 +12,6 @@ use Rattle.prelude.specs.Steps.{writeItems, headerStores, waveFormatStor
 use borrow.Author.Needs.{needs}
 use Rattle.prelude.proofs.build.build_prelude_bytes.Statement.{statement}
 use Rattle.prelude.proofs.build.build_prelude_bytes.Tie as tie
-use Rattle.prelude.proofs.build.build_prelude_bytes.Reads as reads
-use Rattle.prelude.proofs.build.build_prelude_bytes.Lts as lts
-use Rattle.prelude.proofs.build.write_header_body.Reads as write-header-body-reads
-use Rattle.prelude.proofs.build.write_layout.Reads as write-layout-reads
-use Rattle.prelude.proofs.build.write_wave_format.Reads as write-wave-format-reads
 
 -- the stores give the fields in their order, which antt computes
 whole : (width height fps duration rate channels : ℕ)

@@ -8,10 +8,6 @@ use Rattle.prelude.specs.Steps.{headerStores}
 use borrow.Author.Needs.{needs}
 use Rattle.prelude.proofs.build.write_header_body.Statement.{statement}
 use Rattle.prelude.proofs.build.write_header_body.Tie as tie
-use Rattle.prelude.proofs.build.write_header_body.Reads as reads
-use Rattle.prelude.proofs.build.write_header_body.Lts as lts
-use Rattle.fields.proofs.quotient.Reads as quotient-reads
-use Rattle.fields.proofs.write_u32_le.Reads as write-u32-le-reads
 
 quotient-requires : tie.Need-quotient-requires
 quotient-requires c κs = search needs

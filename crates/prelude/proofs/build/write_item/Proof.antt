@@ -4,9 +4,6 @@ use native.Mathlib.Omega.{arith}
 use borrow.Author.Needs.{needs}
 use Rattle.prelude.proofs.build.write_item.Statement.{statement}
 use Rattle.prelude.proofs.build.write_item.Tie as tie
-use Rattle.prelude.proofs.build.write_item.Reads as reads
-use Rattle.prelude.proofs.build.write_item.Lts as lts
-use Rattle.fields.proofs.write_u32_le.Reads as write-u32-le-reads
 
 enum-known-item : tie.Need-enum-known-item
 enum-known-item c = search needs

@@ -11,10 +11,6 @@ use Rattle.prelude.specs.Steps.{writeItems}
 use Rattle.prelude.proofs.Stored.{within, written-step}
 use Rattle.prelude.proofs.build.write_layout.Statement.{statement}
 use Rattle.prelude.proofs.build.write_layout.Tie as tie
-use Rattle.prelude.proofs.build.write_layout.Reads as reads
-use Rattle.prelude.proofs.build.write_layout.Lts as lts
-use Rattle.prelude.proofs.build.write_item.Reads as write-item-reads
-use Rattle.prelude.proofs.layout.LayoutItem.at.Reads as at-reads
 
 abbrev Inv-loop : tie.InvT-loop
 Inv-loop bytes₀ i₀ bytes i = (i ≤ 22) × (length bytes ≡ length bytes₀) × (writeItems bytes (drop i layout) ≡ writeItems bytes₀ layout)

@@ -9,11 +9,6 @@ use Rattle.prelude.specs.Steps.{waveFormatStores}
 use borrow.Author.Needs.{needs}
 use Rattle.prelude.proofs.build.write_wave_format.Statement.{statement}
 use Rattle.prelude.proofs.build.write_wave_format.Tie as tie
-use Rattle.prelude.proofs.build.write_wave_format.Reads as reads
-use Rattle.prelude.proofs.build.write_wave_format.Lts as lts
-use Rattle.fields.proofs.saturating_mul.Reads as saturating-mul-reads
-use Rattle.fields.proofs.write_u16_le.Reads as write-u16-le-reads
-use Rattle.fields.proofs.write_u32_le.Reads as write-u32-le-reads
 
 write-u16-le-requires : tie.Need-write-u16-le-requires
 write-u16-le-requires c κs = search needs

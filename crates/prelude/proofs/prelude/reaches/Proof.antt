@@ -7,8 +7,6 @@ use lib.ListN.{length}
 use borrow.Author.Needs.{needs}
 use Rattle.prelude.proofs.prelude.reaches.Statement.{statement}
 use Rattle.prelude.proofs.prelude.reaches.Tie as tie
-use Rattle.prelude.proofs.prelude.reaches.Reads as reads
-use Rattle.prelude.proofs.prelude.reaches.Lts as lts
 
 returns : tie.Need-returns
 returns c = let a = c .before .args in rw (lt-leb (a .place + a .len) (length (a .file .now)) (omega arith))

@@ -9,8 +9,6 @@ use Rattle.prelude.specs.Prelude.{zeros}
 use Rattle.prelude.proofs.Zeros.{zeros-on, zeros-no}
 use Rattle.prelude.proofs.prelude.require_all_zero.Statement.{statement}
 use Rattle.prelude.proofs.prelude.require_all_zero.Tie as tie
-use Rattle.prelude.proofs.prelude.require_all_zero.Reads as reads
-use Rattle.prelude.proofs.prelude.require_all_zero.Lts as lts
 
 abbrev Inv-loop : tie.InvT-loop
 Inv-loop file place len i₀ i = (i ≤ len) × (zeros file (place + i) (len - i) ≡ zeros file place len)

@@ -5,9 +5,6 @@ use Rattle.prelude.specs.Layout.{askBody}
 use borrow.Author.Needs.{needs}
 use Rattle.prelude.proofs.prelude.require_body.Statement.{statement}
 use Rattle.prelude.proofs.prelude.require_body.Tie as tie
-use Rattle.prelude.proofs.prelude.require_body.Reads as reads
-use Rattle.prelude.proofs.prelude.require_body.Lts as lts
-use Rattle.prelude.proofs.prelude.reaches.Reads as reaches-reads
 
 reaches-requires : tie.Need-reaches-requires
 reaches-requires c κs = search needs

@@ -3,10 +3,6 @@
 use borrow.Author.Needs.{needs}
 use Rattle.prelude.proofs.prelude.require_item.Statement.{statement}
 use Rattle.prelude.proofs.prelude.require_item.Tie as tie
-use Rattle.prelude.proofs.prelude.require_item.Reads as reads
-use Rattle.prelude.proofs.prelude.require_item.Lts as lts
-use Rattle.prelude.proofs.prelude.require_body.Reads as require-body-reads
-use Rattle.prelude.proofs.prelude.require_word.Reads as require-word-reads
 
 enum-known-item : tie.Need-enum-known-item
 enum-known-item c = search needs

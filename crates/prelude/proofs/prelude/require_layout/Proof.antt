@@ -12,10 +12,6 @@ use Rattle.prelude.specs.Layout.{layout, askItem, askItems}
 use Rattle.prelude.proofs.Layouts.{items-step}
 use Rattle.prelude.proofs.prelude.require_layout.Statement.{statement}
 use Rattle.prelude.proofs.prelude.require_layout.Tie as tie
-use Rattle.prelude.proofs.prelude.require_layout.Reads as reads
-use Rattle.prelude.proofs.prelude.require_layout.Lts as lts
-use Rattle.prelude.proofs.layout.LayoutItem.at.Reads as at-reads
-use Rattle.prelude.proofs.prelude.require_item.Reads as require-item-reads
 
 abbrev Inv-loop : tie.InvT-loop
 Inv-loop file i₀ i = (i ≤ 22) × (askItems file (drop i layout) ≡ askItems file layout)

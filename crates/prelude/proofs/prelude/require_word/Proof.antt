@@ -7,10 +7,6 @@ use Rattle.prelude.specs.Layout.{askWord}
 use borrow.Author.Needs.{needs}
 use Rattle.prelude.proofs.prelude.require_word.Statement.{statement}
 use Rattle.prelude.proofs.prelude.require_word.Tie as tie
-use Rattle.prelude.proofs.prelude.require_word.Reads as reads
-use Rattle.prelude.proofs.prelude.require_word.Lts as lts
-use Rattle.fields.proofs.read_u32_le.Reads as read-u32-le-reads
-use Rattle.prelude.proofs.prelude.reaches.Reads as reaches-reads
 
 reaches-requires : tie.Need-reaches-requires
 reaches-requires c κs = search needs

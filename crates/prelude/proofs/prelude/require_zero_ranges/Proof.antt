@@ -8,9 +8,6 @@ use Rattle.prelude.specs.Prelude.{zeroRanges}
 use borrow.Author.Needs.{needs}
 use Rattle.prelude.proofs.prelude.require_zero_ranges.Statement.{statement}
 use Rattle.prelude.proofs.prelude.require_zero_ranges.Tie as tie
-use Rattle.prelude.proofs.prelude.require_zero_ranges.Reads as reads
-use Rattle.prelude.proofs.prelude.require_zero_ranges.Lts as lts
-use Rattle.prelude.proofs.prelude.require_all_zero.Reads as require-all-zero-reads
 
 require-all-zero-requires : tie.Need-require-all-zero-requires
 require-all-zero-requires c κs = search needs

@@ -1,7 +1,7 @@
 -- `walk::ChunkAt::past` meets its contract. The kind that was matched fixes how the position goes on, and a walked position at a header stays walked.
 -- Assumes nothing.
 use Prim.Native.Nat.{ℕ}
-use mathlib.Core.Path.{_≡_, sym, ap, _∙_}
+use mathlib.Core.Path.{sym, ap, _∙_}
 use native.Mathlib.Omega.{arith}
 use borrow.Author.Needs.{needs}
 use Rattle.demuxer.specs.Head.{countOf}
@@ -9,14 +9,9 @@ use Rattle.demuxer.specs.Position.{pastSound}
 use Rattle.demuxer.specs.Read.{payloadAt}
 use Rattle.walk.specs.Walk.{pastBy}
 use Rattle.walk.specs.declared.Kind.{Kind}
-use Rattle.walk.proofs.Walked.{walked-range, walked-frame, walked-sound}
+use Rattle.walk.proofs.Walked.{walked-frame, walked-sound}
 use Rattle.walk.proofs.ChunkAt.past.Statement.{statement}
 use Rattle.walk.proofs.ChunkAt.past.Tie as tie
-use Rattle.walk.proofs.ChunkAt.past.Reads as reads
-use Rattle.walk.proofs.ChunkAt.past.Lts as lts
-use Rattle.demuxer.proofs.head.sample_count.Reads as sample-count-reads
-use Rattle.demuxer.proofs.position.Position.past_frame.Reads as past-frame-reads
-use Rattle.demuxer.proofs.position.Position.past_sound.Reads as past-sound-reads
 
 enum-told : tie.Need-enum-told
 enum-told c = search needs
@@ -56,7 +51,8 @@ returns-2 c =
           ∙ ap (λ (n : ℕ). pastSound (a .position) (a .self .size) n) (c .before .sample-count .ensures)
           ∙ sym (ap (λ (k : Kind). pastBy (a .position) k (a .self .size) count) (c .before .before .enum-told2 .given .1)),
       rw e
-          (walked-sound (a .position) (s .pre .1 .1) (omega (arith, s .pre .0, s .pre .1 .0)) (a .self .size) (c .before .sample-count .result) (omega arith) (omega arith)),
+          (walked-sound (a .position) (s .pre .1 .1) (omega (arith, s .pre .0, s .pre .1 .0)) (a .self .size) (c .before .sample-count .result)
+          (omega arith) (omega arith)),
     )
 
 pub past-spec : {M : Type 1} → statement M

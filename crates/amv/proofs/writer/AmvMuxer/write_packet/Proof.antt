@@ -63,7 +63,7 @@ use denote.Triple.Spec.{tripleOf}
 use denote.Triple.Statement.{Contract, Triple}
 use denote.Triple.Table.{entered, cited}
 use denote.Triple.Walked.{says, Stays, stay-ref, gave-slice, stay-none-slice, stay-none, walkOf, goes-ref, goes-gave-slice, goes-none-slice, goes-none, ends-at}
-use Rattle.muxer.specs.Writer.{packetCall, Meets}
+use Rattle.muxer.specs.Writer.{packetCall, MeetsOutcome}
 use Rattle.muxer.specs.declared.Wrote.{Wrote}
 use Rattle.amv.specs.declared.writer.AmvMuxer.{AmvMuxer}
 use Rattle.error.proofs.AmvResult as N
@@ -76,7 +76,7 @@ use Rattle.muxer.proofs.Writer.write_packet.Met as callee-thm
 use Rattle.amv.proofs.writer.AmvMuxer as T
 use Rattle.amv.proofs.writer.AmvMuxer.Laws as T′
 use Rattle.amv.proofs.Walks.{runs-buffer-two, unasked, told-last, changes, meets-by}
-use Rattle.amv.proofs.Writers.{stateVal, writerVal, withState, writerHolder, wrote, Left}
+use Rattle.amv.proofs.Writers.{stateVal, writerVal, withState, writerHolder, wrote, SliceLeft}
 use Rattle.amv.proofs.writer.AmvMuxer.write_packet.Key.{name as #own}
 use Rattle.amv.proofs.writer.AmvMuxer.write_packet as own
 use Rattle.amv.proofs.writer.AmvMuxer.write_packet.Statement as stated
@@ -137,7 +137,7 @@ module _ {M : Type 1} (𝓤 : URA M) (H : Heap 𝓤) (A : Atoms 𝓤) (W : Given
     Rest = ‵ (owns (MutSlice (named 1) κ′ u8 ∷ ShrSlice (named 2) κ″ u8 ∷ u32 ∷ []) (a .1) (vals .1))
 
     abbrev Said : Wrote → List ℕ → Type 0
-    Said t zs = Meets (packetCall (h .writer) (now p) n (now x)) t zs
+    Said t zs = MeetsOutcome (packetCall (h .writer) (now p) n (now x)) t zs
 
     takes : ent 𝓤 Start (mean 𝓤 H A (‵ (flft κ q) ⊛ ‵ (MutRef (named 0) κ T.the-row .own ref (vptr b o ∷ [])) ⊛ token ⊛ Rest))
     takes = qed W ((‵ (flft κ q) ⊛ token) ∷ ‵ (owns (MutRef (named 0) κ T.the-row ∷ MutSlice (named 1) κ′ u8 ∷ ShrSlice (named 2) κ″ u8 ∷ u32 ∷ []) a vals)
@@ -152,12 +152,13 @@ module _ {M : Type 1} (𝓤 : URA M) (H : Heap 𝓤) (A : Atoms 𝓤) (W : Given
         owned ! K.the-row (Is K.the-row) (writerHolder 𝓤 H A W .part-made) (h .writer) _ (LL.owed T.the-type T′.the-laws h _ is .0) $ fjoin ! $
         move ! (3 ∷ 0 ∷ []) $ use2 W (raw (Callee .pre to)) (unasked 𝓤 H A W _) $ frame ! $ move ! (1 ∷ 0 ∷ []) $ done !
 
-    fins : (ws : Lasts callee.ended (κ′, (κ″, tt)) passed) → ent 𝓤 (sem 𝓤 H A (lasts callee.ended (κ′, (κ″, tt)) passed ws)) (mean 𝓤 H A (Left x (ws .1 .0)))
+    fins : (ws : Lasts callee.ended (κ′, (κ″, tt)) passed)
+        → ent 𝓤 (sem 𝓤 H A (lasts callee.ended (κ′, (κ″, tt)) passed ws)) (mean 𝓤 H A (SliceLeft x (ws .1 .0)))
     fins ws = qed W (‵ (lasts callee.ended (κ′, (κ″, tt)) passed ws) ∷ []) ∵ fsplit ! $ drop ! $ fsplit ! $ fsplit ! $ move ! (1 ∷ []) $
         feqL ! (λ l. check ! l $ keep ! (0 ∷ []) $ done !)
 
     abbrev after : Wrote → Item 𝓤
-    after t = some (λ (zs : List ℕ). given (Said t zs) (Left x zs ⊛ raw (mean 𝓤 H A token)))
+    after t = some (λ (zs : List ℕ). given (Said t zs) (SliceLeft x zs ⊛ raw (mean 𝓤 H A token)))
 
     abbrev answer : Wrote → Val
     answer t = wrote 𝓤 H A W .answer-val (t .result)
@@ -186,7 +187,7 @@ module _ {M : Type 1} (𝓤 : URA M) (H : Heap 𝓤) (A : Atoms 𝓤) (W : Given
           (tt, (tt, (record { fits = room .0 }, tt))) (tt, tt) (tt, (tt, (record { fits = room .0 }, tt))) _ _ vp vn
           (shr-slice-lawful 𝓤 H A W (named 2) κ″ u8 .typed p (vp ∷ []) isp .0) (tt, record { fits = n-fits }))
           Start (token ⊛ Rest) (raw (Callee .pre to)) OwnP (Callee .post to) after Post (λ v. W .laws .⇛-trans _) takes gives (known to)
-          (told-last 𝓤 H A W callee.ended (callee.clauses 𝓤 H A at-mem run) to (λ ws. ws .1 .0) (Left x) Said fins (λ t ws. id⊢ 𝓤 _)) ends
+          (told-last 𝓤 H A W callee.ended (callee.clauses 𝓤 H A at-mem run) to (λ ws. ws .1 .0) (SliceLeft x) Said fins (λ t ws. id⊢ 𝓤 _)) ends
 
 pub write-packet-spec : {M : Type 1} → stated.statement M
 unfolding code.routine tablesOf

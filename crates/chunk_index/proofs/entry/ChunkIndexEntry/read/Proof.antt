@@ -1,11 +1,10 @@
+-- `chunk_index::entry::ChunkIndexEntry::read` meets its contract. Five fields are read where the definition has them; all lie in the table by the
+-- `requires`.
+-- Assumes nothing.
 use Rattle.chunk_index.specs.Entry.{entryAt}
 use borrow.Author.Needs.{needs}
 use Rattle.chunk_index.proofs.entry.ChunkIndexEntry.read.Statement.{statement}
 use Rattle.chunk_index.proofs.entry.ChunkIndexEntry.read.Tie as tie
-use Rattle.chunk_index.proofs.entry.ChunkIndexEntry.read.Reads as reads
-use Rattle.chunk_index.proofs.entry.ChunkIndexEntry.read.Lts as lts
-use Rattle.fields.proofs.read_u32_le.Reads as read-u32-le-reads
-use Rattle.fields.proofs.read_u64_le.Reads as read-u64-le-reads
 
 read-u32-le-requires : tie.Need-read-u32-le-requires
 read-u32-le-requires c κs = search needs

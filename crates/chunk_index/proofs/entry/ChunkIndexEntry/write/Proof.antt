@@ -1,3 +1,6 @@
+-- `chunk_index::entry::ChunkIndexEntry::write` meets its contract. Five fields are stored one after another, which together are the record's bytes
+-- (`entry-stored`); the three 32-bit ones hold their numbers by the `requires`.
+-- Assumes nothing.
 use Prim.Native.Nat.{ℕ, _+_}
 use mathlib.Core.List.{List}
 use mathlib.Core.Path.{ap, _∙_}
@@ -6,10 +9,6 @@ use Rattle.chunk_index.proofs.Entries.{entry-stored}
 use borrow.Author.Needs.{needs}
 use Rattle.chunk_index.proofs.entry.ChunkIndexEntry.write.Statement.{statement}
 use Rattle.chunk_index.proofs.entry.ChunkIndexEntry.write.Tie as tie
-use Rattle.chunk_index.proofs.entry.ChunkIndexEntry.write.Reads as reads
-use Rattle.chunk_index.proofs.entry.ChunkIndexEntry.write.Lts as lts
-use Rattle.fields.proofs.write_u32_le.Reads as write-u32-le-reads
-use Rattle.fields.proofs.write_u64_le.Reads as write-u64-le-reads
 
 write-u32-le-requires : tie.Need-write-u32-le-requires
 write-u32-le-requires c κs = search needs

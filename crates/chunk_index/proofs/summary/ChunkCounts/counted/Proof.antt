@@ -1,13 +1,11 @@
 -- `chunk_index::summary::ChunkCounts::counted` meets its contract. Each arm is the definition's case of the kind that was matched.
 -- Assumes nothing.
-use mathlib.Core.Path.{_≡_, sym, ap}
+use mathlib.Core.Path.{sym, ap}
 use Rattle.chunk_index.specs.Summary.{counted}
 use Rattle.walk.specs.declared.Kind.{Kind}
 use borrow.Author.Needs.{needs}
 use Rattle.chunk_index.proofs.summary.ChunkCounts.counted.Statement.{statement}
 use Rattle.chunk_index.proofs.summary.ChunkCounts.counted.Tie as tie
-use Rattle.chunk_index.proofs.summary.ChunkCounts.counted.Reads as reads
-use Rattle.chunk_index.proofs.summary.ChunkCounts.counted.Lts as lts
 
 enum-told : tie.Need-enum-told
 enum-told c = search needs

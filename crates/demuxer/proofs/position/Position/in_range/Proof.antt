@@ -5,8 +5,6 @@ use borrow.Author.Tests.{le-leb, lt-leb}
 use Rattle.demuxer.specs.Position.{inRange}
 use Rattle.demuxer.proofs.position.Position.in_range.Statement.{statement}
 use Rattle.demuxer.proofs.position.Position.in_range.Tie as tie
-use Rattle.demuxer.proofs.position.Position.in_range.Reads as reads
-use Rattle.demuxer.proofs.position.Position.in_range.Lts as lts
 
 returns : tie.Need-returns
 unfolding inRange

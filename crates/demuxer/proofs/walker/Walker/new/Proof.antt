@@ -5,9 +5,6 @@ use Rattle.demuxer.specs.declared.walker.Trailer.the-variants.{NotMet}
 use borrow.Author.Needs.{needs}
 use Rattle.demuxer.proofs.walker.Walker.new.Statement.{statement}
 use Rattle.demuxer.proofs.walker.Walker.new.Tie as tie
-use Rattle.demuxer.proofs.walker.Walker.new.Reads as reads
-use Rattle.demuxer.proofs.walker.Walker.new.Lts as lts
-use Rattle.demuxer.proofs.position.Position.new.Reads as new-reads
 
 new-requires : tie.Need-new-requires
 new-requires c κs = search needs

@@ -9,11 +9,6 @@ use Rattle.demuxer.proofs.Steps.{read-on}
 use borrow.Author.Needs.{needs}
 use Rattle.demuxer.proofs.walker.Walker.next_packet.Statement.{statement}
 use Rattle.demuxer.proofs.walker.Walker.next_packet.Tie as tie
-use Rattle.demuxer.proofs.walker.Walker.next_packet.Reads as reads
-use Rattle.demuxer.proofs.walker.Walker.next_packet.Lts as lts
-use Rattle.demuxer.proofs.position.Position.in_range.Reads as in-range-reads
-use Rattle.demuxer.proofs.walker.Walker.read_chunk.Reads as read-chunk-reads
-use Rattle.fields.proofs.file.within_limit.Reads as within-limit-reads
 
 within-limit-requires : tie.Need-within-limit-requires
 within-limit-requires c κs = search needs

@@ -6,13 +6,6 @@ use Rattle.demuxer.specs.Read.{End, readHead, readChunk}
 use borrow.Author.Needs.{needs}
 use Rattle.demuxer.proofs.walker.Walker.read_chunk.Statement.{statement}
 use Rattle.demuxer.proofs.walker.Walker.read_chunk.Tie as tie
-use Rattle.demuxer.proofs.walker.Walker.read_chunk.Reads as reads
-use Rattle.demuxer.proofs.walker.Walker.read_chunk.Lts as lts
-use Rattle.demuxer.proofs.head.head_at.Reads as head-at-reads
-use Rattle.demuxer.proofs.walker.Walker.at_trailer.Reads as at-trailer-reads
-use Rattle.demuxer.proofs.walker.Walker.cut_off.Reads as cut-off-reads
-use Rattle.demuxer.proofs.walker.Walker.read_frame.Reads as read-frame-reads
-use Rattle.demuxer.proofs.walker.Walker.read_sound.Reads as read-sound-reads
 
 head-at-requires : tie.Need-head-at-requires
 head-at-requires c κs = search needs

@@ -8,12 +8,6 @@ use Rattle.demuxer.proofs.Steps.{frame-short, frame-whole}
 use borrow.Author.Needs.{needs}
 use Rattle.demuxer.proofs.walker.Walker.read_frame.Statement.{statement}
 use Rattle.demuxer.proofs.walker.Walker.read_frame.Tie as tie
-use Rattle.demuxer.proofs.walker.Walker.read_frame.Reads as reads
-use Rattle.demuxer.proofs.walker.Walker.read_frame.Lts as lts
-use Rattle.demuxer.proofs.head.body_at.Reads as body-at-reads
-use Rattle.demuxer.proofs.position.Position.past_frame.Reads as past-frame-reads
-use Rattle.demuxer.proofs.walker.Walker.advanced.Reads as advanced-reads
-use Rattle.demuxer.proofs.walker.Walker.cut_off.Reads as cut-off-reads
 
 add-body-at : tie.Need-add-body-at
 add-body-at c = search needs

@@ -8,14 +8,6 @@ use Rattle.demuxer.proofs.Steps.{sound-short, sound-whole}
 use borrow.Author.Needs.{needs}
 use Rattle.demuxer.proofs.walker.Walker.read_sound.Statement.{statement}
 use Rattle.demuxer.proofs.walker.Walker.read_sound.Tie as tie
-use Rattle.demuxer.proofs.walker.Walker.read_sound.Reads as reads
-use Rattle.demuxer.proofs.walker.Walker.read_sound.Lts as lts
-use Rattle.demuxer.proofs.head.body_at.Reads as body-at-reads
-use Rattle.demuxer.proofs.head.sample_count.Reads as sample-count-reads
-use Rattle.demuxer.proofs.packet.shown.Reads as shown-reads
-use Rattle.demuxer.proofs.position.Position.past_sound.Reads as past-sound-reads
-use Rattle.demuxer.proofs.walker.Walker.advanced.Reads as advanced-reads
-use Rattle.demuxer.proofs.walker.Walker.cut_off.Reads as cut-off-reads
 
 add-body-at : tie.Need-add-body-at
 add-body-at c = search needs

@@ -7,14 +7,10 @@ use Prim.Native.Nat.{_*_}
 use lib.IntN.{pos}
 use mir.Syntax.{w64}
 use mir.ValLaws.{toZ-pos}
-use Rattle.duration.specs.Duration.{durationOf, totalSeconds}
+use Rattle.duration.specs.Duration.{unpackedOf, totalSeconds}
 use borrow.Author.Needs.{needs}
 use Rattle.parse.proofs.header.AmvHeader.duration_micros.Statement.{statement}
 use Rattle.parse.proofs.header.AmvHeader.duration_micros.Tie as tie
-use Rattle.parse.proofs.header.AmvHeader.duration_micros.Reads as reads
-use Rattle.parse.proofs.header.AmvHeader.duration_micros.Lts as lts
-use Rattle.duration.proofs.AmvDuration.total_seconds.Reads as total-seconds-reads
-use Rattle.parse.proofs.header.AmvHeader.duration.Reads as duration-reads
 
 duration-requires : tie.Need-duration-requires
 duration-requires c κs = search needs
@@ -33,7 +29,7 @@ cast-result c = search needs
 
 returns : tie.Need-returns
 returns c =
-    let d = durationOf (c .before .before .args .self .«duration_packed») in
+    let d = unpackedOf (c .before .before .args .self .«duration_packed») in
     let e : c .total-seconds .result ≡ totalSeconds d = c .total-seconds .ensures ∙ ap totalSeconds (c .before .duration .ensures) in
     let m : c .total-seconds .result * 1000000 ≡ 1000000 * totalSeconds d = omega arith in
     toZ-pos w64 _ (omega (arith, c .total-seconds .ok)) ∙ ap pos m

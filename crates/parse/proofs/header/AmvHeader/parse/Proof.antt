@@ -7,9 +7,6 @@ use Rattle.parse.specs.Header.{headerOf, headerFields}
 use borrow.Author.Needs.{needs}
 use Rattle.parse.proofs.header.AmvHeader.parse.Statement.{statement}
 use Rattle.parse.proofs.header.AmvHeader.parse.Tie as tie
-use Rattle.parse.proofs.header.AmvHeader.parse.Reads as reads
-use Rattle.parse.proofs.header.AmvHeader.parse.Lts as lts
-use Rattle.fields.proofs.read_u32_le.Reads as read-u32-le-reads
 
 returns : tie.Need-returns
 unfolding headerOf

@@ -7,8 +7,6 @@ use Rattle.parse.specs.Header.{headerSentinels}
 use borrow.Author.Needs.{needs}
 use Rattle.parse.proofs.header.AmvHeader.validate_sentinels.Statement.{statement}
 use Rattle.parse.proofs.header.AmvHeader.validate_sentinels.Tie as tie
-use Rattle.parse.proofs.header.AmvHeader.validate_sentinels.Reads as reads
-use Rattle.parse.proofs.header.AmvHeader.validate_sentinels.Lts as lts
 
 returns : tie.Need-returns
 unfolding headerSentinels

@@ -5,9 +5,6 @@ use borrow.Author.Tests.{le-leb, lt-leb}
 use borrow.Author.Needs.{needs}
 use Rattle.parse.proofs.preamble.AmvAudioPreamble.body_padding_slack.Statement.{statement}
 use Rattle.parse.proofs.preamble.AmvAudioPreamble.body_padding_slack.Tie as tie
-use Rattle.parse.proofs.preamble.AmvAudioPreamble.body_padding_slack.Reads as reads
-use Rattle.parse.proofs.preamble.AmvAudioPreamble.body_padding_slack.Lts as lts
-use Rattle.parse.proofs.preamble.AmvAudioPreamble.nibble_body_len.Reads as nibble-body-len-reads
 
 nibble-body-len-requires : tie.Need-nibble-body-len-requires
 nibble-body-len-requires c κs = search needs

@@ -8,8 +8,6 @@ use Rattle.parse.proofs.preamble.AmvAudioPreamble.device_constant_byte.
   statement,
 }
 use Rattle.parse.proofs.preamble.AmvAudioPreamble.device_constant_byte.Tie as tie
-use Rattle.parse.proofs.preamble.AmvAudioPreamble.device_constant_byte.Reads as reads
-use Rattle.parse.proofs.preamble.AmvAudioPreamble.device_constant_byte.Lts as lts
 
 cast-result : tie.Need-cast-result
 cast-result c = search needs

@@ -12,8 +12,6 @@ use mir.ValLaws.{toZ-pos, toZ-neg, toZ-ofZ}
 use borrow.Author.Needs.{needs}
 use Rattle.parse.proofs.preamble.AmvAudioPreamble.initial_predictor.Statement.{statement}
 use Rattle.parse.proofs.preamble.AmvAudioPreamble.initial_predictor.Tie as tie
-use Rattle.parse.proofs.preamble.AmvAudioPreamble.initial_predictor.Reads as reads
-use Rattle.parse.proofs.preamble.AmvAudioPreamble.initial_predictor.Lts as lts
 
 -- one less than minus k
 less : (k : ℕ) → negsuc 0 -ℤ pos k ≡ negsuc k

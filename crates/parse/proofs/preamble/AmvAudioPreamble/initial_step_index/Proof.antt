@@ -6,8 +6,6 @@ use native.Mathlib.Omega.{arith}
 use borrow.Author.Needs.{needs}
 use Rattle.parse.proofs.preamble.AmvAudioPreamble.initial_step_index.Statement.{statement}
 use Rattle.parse.proofs.preamble.AmvAudioPreamble.initial_step_index.Tie as tie
-use Rattle.parse.proofs.preamble.AmvAudioPreamble.initial_step_index.Reads as reads
-use Rattle.parse.proofs.preamble.AmvAudioPreamble.initial_step_index.Lts as lts
 
 cast-result : tie.Need-cast-result
 cast-result c = search needs

@@ -6,9 +6,6 @@ use Rattle.parse.proofs.preamble.AmvAudioPreamble.is_consistent_with_bo
   statement,
 }
 use Rattle.parse.proofs.preamble.AmvAudioPreamble.is_consistent_with_body_len.Tie as tie
-use Rattle.parse.proofs.preamble.AmvAudioPreamble.is_consistent_with_body_len.Reads as reads
-use Rattle.parse.proofs.preamble.AmvAudioPreamble.is_consistent_with_body_len.Lts as lts
-use Rattle.parse.proofs.preamble.AmvAudioPreamble.nibble_body_len.Reads as nibble-body-len-reads
 
 nibble-body-len-requires : tie.Need-nibble-body-len-requires
 nibble-body-len-requires c κs = search needs

@@ -6,9 +6,6 @@ use Rattle.parse.proofs.preamble.AmvAudioPreamble.is_consistent_with_fr
   statement,
 }
 use Rattle.parse.proofs.preamble.AmvAudioPreamble.is_consistent_with_frame_interval.Tie as tie
-use Rattle.parse.proofs.preamble.AmvAudioPreamble.is_consistent_with_frame_interval.Reads as reads
-use Rattle.parse.proofs.preamble.AmvAudioPreamble.is_consistent_with_frame_interval.Lts as lts
-use Rattle.fields.proofs.quotient.Reads as quotient-reads
 
 quotient-requires : tie.Need-quotient-requires
 quotient-requires c κs = search needs

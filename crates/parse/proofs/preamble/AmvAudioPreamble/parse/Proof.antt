@@ -8,8 +8,6 @@ use borrow.Author.Needs.{needs}
 use Rattle.parse.proofs.preamble.AmvAudioPreamble.parse.Statement.{statement}
 use Rattle.parse.proofs.preamble.AmvAudioPreamble.parse.Tie as tie
 use Rattle.parse.proofs.preamble.AmvAudioPreamble.parse.Reads as reads
-use Rattle.parse.proofs.preamble.AmvAudioPreamble.parse.Lts as lts
-use Rattle.fields.proofs.read_u32_le.Reads as read-u32-le-reads
 
 returns : tie.Need-returns
 unfolding preambleOf

@@ -6,9 +6,6 @@ use Rattle.parse.proofs.preamble.AmvAudioPreamble.step_index_in_ima_ran
   statement,
 }
 use Rattle.parse.proofs.preamble.AmvAudioPreamble.step_index_in_ima_range.Tie as tie
-use Rattle.parse.proofs.preamble.AmvAudioPreamble.step_index_in_ima_range.Reads as reads
-use Rattle.parse.proofs.preamble.AmvAudioPreamble.step_index_in_ima_range.Lts as lts
-use Rattle.parse.proofs.preamble.AmvAudioPreamble.initial_step_index.Reads as initial-step-index-reads
 
 initial-step-index-requires : tie.Need-initial-step-index-requires
 initial-step-index-requires c κs = search needs

@@ -4,8 +4,6 @@ use borrow.Author.Tests.{lt-ltb, le-ltb}
 use native.Mathlib.Omega.{arith}
 use Rattle.parse.proofs.preamble.AmvAudioPreamble.validate_sentinels.Statement.{statement}
 use Rattle.parse.proofs.preamble.AmvAudioPreamble.validate_sentinels.Tie as tie
-use Rattle.parse.proofs.preamble.AmvAudioPreamble.validate_sentinels.Reads as reads
-use Rattle.parse.proofs.preamble.AmvAudioPreamble.validate_sentinels.Lts as lts
 
 returns : tie.Need-returns
 returns c = simp (le-ltb 0 (c .before .before .args .self .«decoded_sample_count») (omega arith))

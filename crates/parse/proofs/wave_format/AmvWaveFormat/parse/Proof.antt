@@ -7,11 +7,6 @@ use Rattle.parse.specs.WaveFormat.{waveFormatOf, waveFormatFields}
 use borrow.Author.Needs.{needs}
 use Rattle.parse.proofs.wave_format.AmvWaveFormat.parse.Statement.{statement}
 use Rattle.parse.proofs.wave_format.AmvWaveFormat.parse.Tie as tie
-use Rattle.parse.proofs.wave_format.AmvWaveFormat.parse.Reads as reads
-use Rattle.parse.proofs.wave_format.AmvWaveFormat.parse.Lts as lts
-use Rattle.fields.proofs.read_u16_le.Reads as read-u16-le-reads
-use Rattle.fields.proofs.read_u32_le.Reads as read-u32-le-reads
-use Rattle.parse.proofs.wave_format.cb_size.Reads as cb-size-reads
 
 returns : tie.Need-returns
 unfolding waveFormatOf

@@ -7,9 +7,6 @@ use Rattle.parse.specs.WaveFormat.{waveFormatSentinels}
 use borrow.Author.Needs.{needs}
 use Rattle.parse.proofs.wave_format.AmvWaveFormat.validate_sentinels.Statement.{statement}
 use Rattle.parse.proofs.wave_format.AmvWaveFormat.validate_sentinels.Tie as tie
-use Rattle.parse.proofs.wave_format.AmvWaveFormat.validate_sentinels.Reads as reads
-use Rattle.parse.proofs.wave_format.AmvWaveFormat.validate_sentinels.Lts as lts
-use Rattle.fields.proofs.saturating_mul.Reads as saturating-mul-reads
 
 returns : tie.Need-returns
 unfolding waveFormatSentinels

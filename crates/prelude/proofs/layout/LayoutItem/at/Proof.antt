@@ -10,8 +10,6 @@ use Rattle.prelude.specs.Layout.{past}
 use Rattle.prelude.specs.Layout.{layout}
 use Rattle.prelude.proofs.layout.LayoutItem.at.Statement.{statement}
 use Rattle.prelude.proofs.layout.LayoutItem.at.Tie as tie
-use Rattle.prelude.proofs.layout.LayoutItem.at.Reads as reads
-use Rattle.prelude.proofs.layout.LayoutItem.at.Lts as lts
 
 -- a number that is none of 0 to n - 1 is at least n
 abbrev Missed : ℕ → ℕ → Type 0

@@ -10,11 +10,6 @@ use Rattle.prelude.proofs.Layouts.{layout-length}
 use borrow.Author.Needs.{needs}
 use Rattle.prelude.proofs.prelude.AmvPrelude.parse.Statement.{statement}
 use Rattle.prelude.proofs.prelude.AmvPrelude.parse.Tie as tie
-use Rattle.prelude.proofs.prelude.AmvPrelude.parse.Reads as reads
-use Rattle.prelude.proofs.prelude.AmvPrelude.parse.Lts as lts
-use Rattle.fields.proofs.file.within_limit.Reads as within-limit-reads
-use Rattle.prelude.proofs.prelude.AmvPrelude.read.Reads as read-reads
-use Rattle.prelude.proofs.prelude.require_layout.Reads as require-layout-reads
 
 within-limit-requires : tie.Need-within-limit-requires
 within-limit-requires c κs = search needs

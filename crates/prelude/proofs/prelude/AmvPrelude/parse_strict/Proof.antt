@@ -7,10 +7,6 @@ use Rattle.prelude.proofs.Layouts.{parsed-length}
 use borrow.Author.Needs.{needs}
 use Rattle.prelude.proofs.prelude.AmvPrelude.parse_strict.Statement.{statement}
 use Rattle.prelude.proofs.prelude.AmvPrelude.parse_strict.Tie as tie
-use Rattle.prelude.proofs.prelude.AmvPrelude.parse_strict.Reads as reads
-use Rattle.prelude.proofs.prelude.AmvPrelude.parse_strict.Lts as lts
-use Rattle.prelude.proofs.prelude.AmvPrelude.parse.Reads as parse-reads
-use Rattle.prelude.proofs.prelude.AmvPrelude.validated.Reads as validated-reads
 
 parse-requires : tie.Need-parse-requires
 parse-requires c κs = search needs

@@ -12,10 +12,6 @@ use Rattle.prelude.proofs.Bodies.{header-body, wave-format-body}
 use borrow.Author.Needs.{needs}
 use Rattle.prelude.proofs.prelude.AmvPrelude.read.Statement.{statement}
 use Rattle.prelude.proofs.prelude.AmvPrelude.read.Tie as tie
-use Rattle.prelude.proofs.prelude.AmvPrelude.read.Reads as reads
-use Rattle.prelude.proofs.prelude.AmvPrelude.read.Lts as lts
-use Rattle.parse.proofs.header.AmvHeader.parse.Reads as header-AmvHeader-parse-reads
-use Rattle.parse.proofs.wave_format.AmvWaveFormat.parse.Reads as wave-format-AmvWaveFormat-parse-reads
 
 sub-parse : tie.Need-sub-parse
 sub-parse c = search needs

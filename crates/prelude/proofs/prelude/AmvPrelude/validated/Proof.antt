@@ -7,11 +7,6 @@ use Rattle.prelude.specs.Prelude.{validatedOf}
 use borrow.Author.Needs.{needs}
 use Rattle.prelude.proofs.prelude.AmvPrelude.validated.Statement.{statement}
 use Rattle.prelude.proofs.prelude.AmvPrelude.validated.Tie as tie
-use Rattle.prelude.proofs.prelude.AmvPrelude.validated.Reads as reads
-use Rattle.prelude.proofs.prelude.AmvPrelude.validated.Lts as lts
-use Rattle.parse.proofs.header.AmvHeader.validate_sentinels.Reads as header-AmvHeader-validate-sentinels-reads
-use Rattle.parse.proofs.wave_format.AmvWaveFormat.validate_sentinels.Reads as wave-format-AmvWaveFormat-validate-sentinels-reads
-use Rattle.prelude.proofs.prelude.require_zero_ranges.Reads as require-zero-ranges-reads
 
 validate-sentinels-requires : tie.Need-validate-sentinels-requires
 validate-sentinels-requires c κs = search needs

@@ -1,5 +1,5 @@
--- `amv::plain::seek` meets its contract. `makes-reader` makes the reader in a local, `lends-three` walks the code with the three arguments that are
--- handed on, and `lends` takes what the method leaves apart into the result and the walker.
+-- `amv::plain::seek_to_via_index` meets its contract. `makes-reader` makes the reader in a local, `lends-three` walks the code with the three
+-- arguments that are handed on, and `lends` takes what the method leaves apart into the result and the walker.
 -- Assumes nothing.
 use mathlib.Core.Path.{refl}
 use Prim.Native.Nat.{ℕ, _<_, _^_}
@@ -41,27 +41,27 @@ use denote.Triple.Table.{entered, cited}
 use denote.Triple.Walked.{says, Stays, stay-none-slice, stay-none, walkOf, goes-none-slice, goes-none, ends-at}
 use Rattle.demuxer.specs.declared.walker.Walker.{Walker}
 use Rattle.seek.specs.declared.SeekResult.{SeekResult}
-use Rattle.seek.specs.declared.Sought.{Sought}
+use Rattle.seek.specs.declared.SeekOutcome.{SeekOutcome}
 use Rattle.amv.specs.Reader.{Seeks}
 use Rattle.amv.specs.declared.reader.AmvDemuxer.{AmvDemuxer}
 use Rattle.seek.proofs.SeekResult as N
 use Rattle.seek.proofs.SeekResult.Laws as N′
-use Rattle.seek.proofs.Sought as G
-use Rattle.seek.proofs.Sought.Laws as G′
+use Rattle.seek.proofs.SeekOutcome as G
+use Rattle.seek.proofs.SeekOutcome.Laws as G′
 use Rattle.demuxer.proofs.walker.Walker as K
 use Rattle.demuxer.proofs.walker.Walker.Laws as K′
 use Rattle.amv.proofs.reader.AmvDemuxer as T
 use Rattle.amv.proofs.reader.AmvDemuxer.Laws as T′
-use Rattle.amv.proofs.reader.AmvDemuxer.seek as callee
-use Rattle.amv.proofs.reader.AmvDemuxer.seek.Symbol as callee-def
-use Rattle.amv.proofs.reader.AmvDemuxer.seek.Symbol.{name as #callee}
-use Rattle.amv.proofs.reader.AmvDemuxer.seek.Met as callee-thm
+use Rattle.amv.proofs.reader.AmvDemuxer.seek_to_via_index as callee
+use Rattle.amv.proofs.reader.AmvDemuxer.seek_to_via_index.Symbol as callee-def
+use Rattle.amv.proofs.reader.AmvDemuxer.seek_to_via_index.Symbol.{name as #callee}
+use Rattle.amv.proofs.reader.AmvDemuxer.seek_to_via_index.Met as callee-thm
 use Rattle.amv.proofs.Readers.{walkerVal, readerVal, readerCell, made, OwnFile, makes-reader}
 use Rattle.amv.proofs.Walks.{Returned, lends-three, lends, unasked, told-last, meets-by}
-use Rattle.amv.proofs.plain.seek.Key.{name as #own}
-use Rattle.amv.proofs.plain.seek as own
-use Rattle.amv.proofs.plain.seek.Statement as stated
-use Rattle.amv.proofs.plain.seek.Code as code
+use Rattle.amv.proofs.plain.seek_to_via_index.Key.{name as #own}
+use Rattle.amv.proofs.plain.seek_to_via_index as own
+use Rattle.amv.proofs.plain.seek_to_via_index.Statement as stated
+use Rattle.amv.proofs.plain.seek_to_via_index.Code as code
 
 abbrev stayed : Stays (own.ended .signature .params) (own.ended .kept)
 stayed = (
@@ -139,7 +139,7 @@ module _ {M : Type 1} (𝓤 : URA M) (H : Heap 𝓤) (A : Atoms 𝓤) (W : Given
       tt,
     )
 
-    abbrev result : SeekResult → AmvDemuxer → Sought
+    abbrev result : SeekResult → AmvDemuxer → SeekOutcome
     result t d = record { result = t; walker = d .walker }
 
     abbrev res : SeekResult → AmvDemuxer → Val
@@ -209,9 +209,9 @@ module _ {M : Type 1} (𝓤 : URA M) (H : Heap 𝓤) (A : Atoms 𝓤) (W : Given
           (λ ws. qed W (‵ (lasts callee.ended (ν ∷ κ, (κ, (κ′, tt))) (to ν l γ .0 .3) ws) ∷ []) ∵ fsplit ! $ frame ! $ drop ! $ nothing ! $ done !)
           (λ t ws. id⊢ 𝓤 _)) ends
 
-pub seek-spec : {M : Type 1} → stated.statement M
+pub seek-to-via-index-spec : {M : Type 1} → stated.statement M
 unfolding code.routine tablesOf
-seek-spec 𝓤 H 𝓜 𝓖 𝓡 =
+seek-to-via-index-spec 𝓤 H 𝓜 𝓖 𝓡 =
     let A = 𝓖 .A in let W = givenOf 𝓤 H 𝓜 𝓖 in let 𝓣 = tablesOf 𝓤 H 𝓜 (tables 𝓤 H 𝓜 𝓡 code.env) in
     entered 𝓤 H (tripleOf 𝓤 H A own.signature (own.spec 𝓤 H A (𝓜 .mem) (𝓡 .run))) (tables 𝓤 H 𝓜 𝓡 code.env .C) (tables 𝓤 H 𝓜 𝓡 code.env .Λ) #own code.function
     (code.unfolded 𝓤 H 𝓜 𝓡)
@@ -233,4 +233,5 @@ seek-spec 𝓤 H 𝓜 𝓖 𝓡 =
     ))
     (λ κs qs bounds a g are. walk 𝓤 H A W (𝓜 .mem) (𝓡 .run) (κs .0) (κs .1 .0) (qs .0) (qs .1 .0) (a .0) (a .1 .0) (a .1 .1 .0) (a .1 .1 .1 .0)
     (a .1 .1 .1 .1 .0) (are .0) (are .1 .0) (are .1 .1 .0) (are .1 .1 .1 .0 .1) (are .1 .1 .1 .1 .0) (𝓣 .C) (𝓣 .Λ) (fmOf 𝓤 H (W .laws) 𝓣)
-    (cited 𝓤 H (Callee 𝓤 H A W (𝓜 .mem) (𝓡 .run)) 𝓜 𝓡 code.env #callee callee-def.routine code.calls-amv·reader·AmvDemuxer·seek (callee-thm.met 𝓤 H 𝓜 𝓖 𝓡))))
+    (cited 𝓤 H (Callee 𝓤 H A W (𝓜 .mem) (𝓡 .run)) 𝓜 𝓡 code.env #callee callee-def.routine
+    code.calls-amv·reader·AmvDemuxer·seek-to-via-index (callee-thm.met 𝓤 H 𝓜 𝓖 𝓡))))

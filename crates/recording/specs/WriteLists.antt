@@ -1,12 +1,12 @@
 -- Lists of writing calls, and the claim about every one of them. Assumes nothing.
 use mathlib.Core.Path.{_≡_}
 use mathlib.Core.List.{List, [], _∷_, List·Memᴰ}
-use Prim.Native.Nat.{ℕ, _<_}
+use Prim.Native.Nat.{ℕ, _≤_, _<_}
 use lib.ListN.{take}
 use Rattle.fields.specs.Capped.{u32Max}
 use Rattle.error.specs.Answer.{Answer, accepted, refused}
 use Rattle.demuxer.specs.Packet.{Shown}
-use Rattle.muxer.specs.Writer.{fresh, Outcome, headerCall, packetCall, trailerCall}
+use Rattle.muxer.specs.Writer.{fresh, WriteOutcome, headerCall, packetCall, trailerCall}
 use Rattle.muxer.specs.declared.Settings.{Settings}
 use Rattle.muxer.specs.declared.Writer.{Writer}
 use Rattle.walk.specs.Chunks.{Chunk}
@@ -19,7 +19,7 @@ pub data WriteCall : Type 0 where
   packet : List ℕ → ℕ → WriteCall
   trailer : WriteCall
 
-unfoldable pub writeStep : Writer → List ℕ → WriteCall → Outcome
+unfoldable pub writeStep : Writer → List ℕ → WriteCall → WriteOutcome
 writeStep w buf header = headerCall w buf
 writeStep w buf (packet payload stream) = packetCall w payload stream buf
 writeStep w buf trailer = trailerCall w buf
@@ -94,7 +94,7 @@ pub record WritesAgreed (s : Settings) (file : List ℕ) (said : List WriteCall)
       → file ≡ writtenFile (fresh t) other more → sentBy said ≡ sentBy (acceptedCalls (fresh t) other more)
 
 -- Demand 3 for the writer: every list of header, packet and trailer calls, refused ones included
-abbrev pub Writes : Type 0
-Writes =
+abbrev pub WritesDrain : Type 0
+WritesDrain =
     (s : Settings) (buf : List ℕ) (calls : List WriteCall) → Held s
     → WritesAgreed s (writtenFile (fresh s) buf calls) (acceptedCalls (fresh s) buf calls)

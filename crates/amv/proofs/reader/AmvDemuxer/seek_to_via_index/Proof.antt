@@ -1,5 +1,5 @@
--- `amv::reader::AmvDemuxer::seek` meets its contract. The seek is called on the walker behind `self` and on the three other arguments: `runs-three`
--- walks that code, and `changes` stores the walker sought.
+-- `amv::reader::AmvDemuxer::seek_to_via_index` meets its contract. The seek is called on the walker behind `self` and on the three other arguments:
+-- `runs-three` walks that code, and `changes` stores the walker sought.
 -- Assumes nothing.
 use mathlib.Core.Path.{_≡_, refl}
 use Prim.Native.Nat.{ℕ, _<_, _^_}
@@ -37,12 +37,12 @@ use denote.Triple.Spec.{tripleOf}
 use denote.Triple.Statement.{Contract, Triple}
 use denote.Triple.Table.{entered, cited}
 use denote.Triple.Walked.{says, Stays, stay-ref, stay-none-slice, stay-none, walkOf, goes-ref, goes-none-slice, goes-none, ends-at}
-use Rattle.seek.specs.Seek.{saidSought, seekOf}
-use Rattle.seek.specs.declared.Sought.{Sought}
+use Rattle.seek.specs.Seek.{saidSeekOutcome, seekOf}
+use Rattle.seek.specs.declared.SeekOutcome.{SeekOutcome}
 use Rattle.amv.specs.declared.reader.AmvDemuxer.{AmvDemuxer}
 use Rattle.demuxer.proofs.walker.Walker as K
-use Rattle.seek.proofs.Sought as G
-use Rattle.seek.proofs.Sought.Laws as G′
+use Rattle.seek.proofs.SeekOutcome as G
+use Rattle.seek.proofs.SeekOutcome.Laws as G′
 use Rattle.seek.proofs.SeekResult as N
 use Rattle.seek.proofs.SeekResult.Laws as N′
 use Rattle.seek.proofs.seek_to_via_index as callee
@@ -53,10 +53,10 @@ use Rattle.amv.proofs.reader.AmvDemuxer as T
 use Rattle.amv.proofs.reader.AmvDemuxer.Laws as T′
 use Rattle.amv.proofs.Readers.{walkerVal, readerVal, readerHolder, withWalker}
 use Rattle.amv.proofs.Walks.{Answered, runs-three, unasked, told, changes, meets-by}
-use Rattle.amv.proofs.reader.AmvDemuxer.seek.Key.{name as #own}
-use Rattle.amv.proofs.reader.AmvDemuxer.seek as own
-use Rattle.amv.proofs.reader.AmvDemuxer.seek.Statement as stated
-use Rattle.amv.proofs.reader.AmvDemuxer.seek.Code as code
+use Rattle.amv.proofs.reader.AmvDemuxer.seek_to_via_index.Key.{name as #own}
+use Rattle.amv.proofs.reader.AmvDemuxer.seek_to_via_index as own
+use Rattle.amv.proofs.reader.AmvDemuxer.seek_to_via_index.Statement as stated
+use Rattle.amv.proofs.reader.AmvDemuxer.seek_to_via_index.Code as code
 
 abbrev stayed : Stays (own.ended .signature .params) (own.ended .kept)
 stayed = (
@@ -107,8 +107,8 @@ module _ {M : Type 1} (𝓤 : URA M) (H : Heap 𝓤) (A : Atoms 𝓤) (W : Given
     abbrev vals : Vals own.signature (κ, (κ′, (κ″, tt)))
     vals = (vptr b o ∷ [], (vy ∷ [], (vn ∷ [], (vz ∷ [], tt))))
 
-    abbrev Said : Sought → Type 0
-    Said t = saidSought t ≡ seekOf (now y) (h .walker) n z
+    abbrev Said : SeekOutcome → Type 0
+    Said t = saidSeekOutcome t ≡ seekOf (now y) (h .walker) n z
 
     abbrev Start : SProp 𝓤
     Start = onEntry 𝓤 H A own.signature (κ, (κ′, (κ″, tt))) (q, (q′, (q″, tt))) a vals
@@ -146,13 +146,13 @@ module _ {M : Type 1} (𝓤 : URA M) (H : Heap 𝓤) (A : Atoms 𝓤) (W : Given
         -- [what the callee is passed; the records; the struct; the tokens]
         move ! (3 ∷ []) $ split ! $ move ! (1 ∷ 2 ∷ []) $ use2 W (raw (Callee .pre to)) (unasked 𝓤 H A W _) $ frame ! $ move ! (2 ∷ []) $ done !
 
-    abbrev after : Sought → Item 𝓤
+    abbrev after : SeekOutcome → Item 𝓤
     after t = given (Said t) (raw (mean 𝓤 H A token))
 
-    abbrev answer : Sought → Val
+    abbrev answer : SeekOutcome → Val
     answer t = answered .answer-val (t .result)
 
-    ends : (t : Sought)
+    ends : (t : SeekOutcome)
         → ent 𝓤 (mean 𝓤 H A (‵ (N.the-row .own (t .result) (answer t ∷ [])) ⊛ ‵ (flft κ q)
         ⊛ ‵ (MutRef (named 0) κ (T.the-row α) .own (at-last x (withWalker h (t .walker))) (vptr b o ∷ [])) ⊛ after t ⊛ ‵ (flft κ′ q′) ⊛ OwnY)) (Post (answer t))
     ends t =
@@ -172,15 +172,15 @@ module _ {M : Type 1} (𝓤 : URA M) (H : Heap 𝓤) (A : Atoms 𝓤) (W : Given
       walk =
           changes 𝓤 H A W C Λ code.function (vptr b o ∷ vy ∷ vn ∷ vz ∷ []) #callee (walkerVal (h .walker) ∷ vy ∷ vn ∷ vz ∷ []) (named 0) κ q b o γ
           (T.the-row α) K.the-row G.the-row N.the-row (readerHolder 𝓤 H A W α) answered h
-          (runs-three 𝓤 H A W C Λ fm _ _ _ _ _ _ _ _ 1 #callee _ refl b o (tt, tt) _ Sought answer (λ t. walkerVal (t .walker)) _ _ _ vy vn vz
+          (runs-three 𝓤 H A W C Λ fm _ _ _ _ _ _ _ _ 1 #callee _ refl b o (tt, tt) _ SeekOutcome answer (λ t. walkerVal (t .walker)) _ _ _ vy vn vz
           (shr-slice-lawful 𝓤 H A W (named 2) κ″ u8 .typed y (vy ∷ []) isy .0) (tt, record { fits = n-fits }) (sint-lawful 𝓤 H A W w64 .typed z _ isz .0))
           Start ((‵ (flft κ′ q′) ⊛ token) ⊛ Rest) (raw (Callee .pre to)) (‵ (flft κ′ q′) ⊛ OwnY) (Callee .post to) after Post
           (λ v. W .laws .⇛-trans _) takes gives (known to)
           (told 𝓤 H A W callee.ended (callee.clauses 𝓤 H A at-mem run) to Said (λ t e. id⊢ 𝓤 _)) ends
 
-pub seek-spec : {M : Type 1} → stated.statement M
+pub seek-to-via-index-spec : {M : Type 1} → stated.statement M
 unfolding code.routine tablesOf
-seek-spec 𝓤 H 𝓜 𝓖 𝓡 =
+seek-to-via-index-spec 𝓤 H 𝓜 𝓖 𝓡 =
     let A = 𝓖 .A in let W = givenOf 𝓤 H 𝓜 𝓖 in let 𝓣 = tablesOf 𝓤 H 𝓜 (tables 𝓤 H 𝓜 𝓡 code.env) in
     entered 𝓤 H (tripleOf 𝓤 H A own.signature (own.spec 𝓤 H A (𝓜 .mem) (𝓡 .run))) (tables 𝓤 H 𝓜 𝓡 code.env .C) (tables 𝓤 H 𝓜 𝓡 code.env .Λ) #own code.function
     (code.unfolded 𝓤 H 𝓜 𝓡)
