@@ -7,18 +7,15 @@ use native.Mathlib.Omega.{arith}
 use lib.ListN.{length}
 use Rattle.chunk.specs.Chunk.{payloadLimit}
 use Rattle.error.specs.Answer.{accepted, andThen}
-use Rattle.error.specs.Refusal.{said}
-use Rattle.error.specs.declared.AmvResult.{AmvResult}
 use Rattle.fields.specs.File.{fileLimit}
 use Rattle.prelude.specs.Layout.{preludeLen}
 use Rattle.demuxer.specs.Position.{start}
 use Rattle.demuxer.specs.Read.{payloadAt}
 use Rattle.demuxer.specs.declared.position.Position.{Position}
-use Rattle.walk.specs.Walk.{Walk, stop, chunk, onStep, stepAt, walkFor, walk, past, fileWalk}
+use Rattle.walk.specs.Walk.{Stop, Walk, stop, chunk, onStep, stepAt, walkFor, walk, past, fileWalk}
 use Rattle.walk.specs.declared.ChunkAt.{ChunkAt}
 use Rattle.walk.specs.declared.Step.{Step}
 use Rattle.walk.specs.declared.Step.the-variants as step
-use Rattle.walk.specs.declared.Stop.{Stop}
 use Rattle.walk.proofs.Walks.{Goes}
 use Rattle.chunk_index.specs.Entry.{entry}
 use Rattle.chunk_index.specs.Index.{recorded, records, stopKnown, tagsKnown}
@@ -52,7 +49,9 @@ count-le (suc n) file at = on (λ next. count-le n file next) (stepAt file at)
     go false k l = omega arith
 
     on : ((next : ℕ) → recordCount (walkFor n file next) ≤ n) → (s : Step) → recordCount (onStep file at (walkFor n file) s) ≤ suc n
-    on few (step.Stop s) = unfold recordCount in omega arith
+    on few step.RanOut = unfold recordCount in omega arith
+    on few step.Trailer = unfold recordCount in omega arith
+    on few step.UnknownTag = unfold recordCount in omega arith
     on few (step.Chunk c) =
         unfold recordCount in
         go (recorded (c .kind) (payloadAt file at (c .size)) (c .missing)) (recordCount (walkFor n file (at + (8 + c .size)))) (few (at + (8 + c .size)))
@@ -79,11 +78,11 @@ module _ {file : List ℕ} {at chunks : ℕ} (h : Headers file at chunks) where
       record { at-le = omega (arith, g .there); chunks-le = omega (arith, h .chunks-le); known = sym (known-on file at c g r) ∙ h .known }
 
   -- what is answered at a stop, and at a chunk without a record: n so far, m in all
-  pub headers-stop : {A : Type 0} {s : Stop} (r : AmvResult) (n m : A) → walk file at ≡ stop s → said r ≡ stopKnown at s → m ≡ n
-      → andThen (said r) (λ _. accepted n) ≡ andThen (tagsKnown preludeLen (fileWalk file)) (λ _. accepted m)
+  pub headers-stop : {A : Type 0} {s : Stop} (n m : A) → walk file at ≡ stop s → m ≡ n
+      → andThen (stopKnown at s) (λ _. accepted n) ≡ andThen (tagsKnown preludeLen (fileWalk file)) (λ _. accepted m)
   unfolding tagsKnown
-  headers-stop r n m w e q =
-      let k : tagsKnown preludeLen (fileWalk file) ≡ said r = sym (h .known) ∙ ap (tagsKnown at) w ∙ sym e in
+  headers-stop {s = s} n m w q =
+      let k : tagsKnown preludeLen (fileWalk file) ≡ stopKnown at s = sym (h .known) ∙ ap (tagsKnown at) w in
       rw (k, q)
 
   pub headers-end : {A : Type 0} {c : ChunkAt} (n m : A) → Goes file at c → recordedAt c ≡ false → m ≡ n

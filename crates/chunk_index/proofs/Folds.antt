@@ -13,11 +13,10 @@ use Rattle.error.specs.Answer.{accepted}
 use Rattle.demuxer.specs.Read.{payloadAt}
 use Rattle.demuxer.specs.declared.position.Position.{Position}
 use Rattle.walk.specs.Steps.{pastAt}
-use Rattle.walk.specs.Walk.{stop, walk}
+use Rattle.walk.specs.Walk.{Stop, stop, walk}
 use Rattle.walk.specs.declared.ChunkAt.{ChunkAt}
 use Rattle.walk.specs.declared.Kind.{Kind}
 use Rattle.walk.specs.declared.Kind.the-variants.{Frame, Sound}
-use Rattle.walk.specs.declared.Stop.{Stop}
 use Rattle.walk.proofs.Walks.{Goes, past-is, past-cursor}
 use Rattle.chunk_index.specs.Entry.{entry}
 use Rattle.chunk_index.specs.Index.{recorded, records, tagsKnown}

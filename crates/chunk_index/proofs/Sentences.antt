@@ -33,11 +33,10 @@ use Rattle.chunk_index.specs.declared.entry.ChunkIndexEntry.{ChunkIndexE
 use Rattle.chunk_index.specs.declared.summary.ChunkCounts.{ChunkCounts}
 use Rattle.chunk_index.proofs.Entries.{length-table}
 use Rattle.chunk_index.proofs.Folds.{records-on, records-end}
-use Rattle.walk.specs.Walk.{chunkAt, onHead, stepAt, Walk, stop, chunk, walk, fileWalk, past}
+use Rattle.walk.specs.Walk.{ranOut, trailer, unknownTag, chunkAt, onHead, stepAt, Walk, stop, chunk, walk, fileWalk, past}
 use Rattle.walk.specs.declared.Kind.{Kind}
 use Rattle.walk.specs.declared.Kind.the-variants.{Frame, Sound}
 use Rattle.walk.specs.declared.Step.the-variants as step
-use Rattle.walk.specs.declared.Stop.the-variants.{RanOut, Trailer, UnknownTag}
 use Rattle.walk.specs.Steps.{pastAt}
 use Rattle.walk.proofs.Walks.{Goes, step-out, step-means}
 
@@ -59,7 +58,7 @@ module _ (file part : List ℕ) (p : Position) (tag size : ℕ) (e : EndsIn file
   no-more q =
       let l = ends-at in
       let c = e .cut in
-      ap (records q) (step-means file (p .cursor + (8 + size)) (step.Stop RanOut) (step-out file (p .cursor + (8 + size)) (omega arith)))
+      ap (records q) (step-means file (p .cursor + (8 + size)) step.RanOut (step-out file (p .cursor + (8 + size)) (omega arith)))
 
 cut-frame : (file part : List ℕ) (p : Position) (size : ℕ) → EndsIn file p videoTag size part
     → records p (walk file (p .cursor)) ≡ record { tag = videoTag; position = p } ∷ []
@@ -193,9 +192,9 @@ gives-back file table r = go (andThen (indexOf file) (λ es. ask (leb (entryLen 
 module _ (numbers : List ℕ) (n : oneOf numbers 31 ≡ true) where
   known-by : (at : ℕ) (w : Walk) → RefusedBy numbers (tagsKnown at w)
   unfolding tagsKnown
-  known-by at (stop RanOut) = tt
-  known-by at (stop (Trailer k)) = tt
-  known-by at (stop UnknownTag) = n
+  known-by at (stop ranOut) = tt
+  known-by at (stop (trailer k)) = tt
+  known-by at (stop unknownTag) = n
   known-by at (chunk kind payload missing rest) = go (recorded kind payload missing) _ (known-by (at + (8 + (length payload + missing))) rest)
     where
       go : (b : Bool) (later : Answer Unit) → RefusedBy numbers later → RefusedBy numbers (cond b later (accepted tt))

@@ -8,11 +8,10 @@ use lib.ListN.{length}
 use Rattle.chunk.specs.Chunk.{payloadLimit}
 use Rattle.fields.specs.File.{fileLimit}
 use Rattle.prelude.specs.Layout.{preludeLen}
-use Rattle.walk.specs.Walk.{stop, walk, fileWalk}
+use Rattle.walk.specs.Walk.{Stop, stop, walk, fileWalk}
 use Rattle.walk.specs.declared.ChunkAt.{ChunkAt}
 use Rattle.walk.specs.declared.Kind.{Kind}
 use Rattle.walk.specs.declared.Kind.the-variants.{Frame, Sound}
-use Rattle.walk.specs.declared.Stop.{Stop}
 use Rattle.walk.proofs.Walks.{Goes}
 use Rattle.chunk_index.specs.Steps.{recordedAt}
 use Rattle.chunk_index.specs.Summary.{noneCounted, counted, countsFrom}

@@ -12,11 +12,9 @@ use Rattle.chunk.specs.Chunk.{advanceTotal}
 use Rattle.prelude.specs.Layout.{preludeLen}
 use Rattle.demuxer.specs.Position.{start}
 use Rattle.demuxer.specs.declared.position.Position.{Position}
-use Rattle.walk.specs.Walk.{Walk, stop, chunk, past, fileWalk}
+use Rattle.walk.specs.Walk.{Stop, ranOut, trailer, unknownTag, Walk, stop, chunk, past, fileWalk}
 use Rattle.walk.specs.declared.Kind.{Kind}
 use Rattle.walk.specs.declared.Kind.the-variants.{Frame, Sound}
-use Rattle.walk.specs.declared.Stop.{Stop}
-use Rattle.walk.specs.declared.Stop.the-variants.{RanOut, Trailer, UnknownTag}
 use Rattle.chunk_index.specs.Entry.{entryLen, entry, tableBytes}
 use Rattle.chunk_index.specs.declared.entry.ChunkIndexEntry.{ChunkIndexEntry}
 use Rattle.chunk_index.specs.declared.index.IndexResult.{IndexResult}
@@ -35,9 +33,9 @@ records p (chunk kind payload missing rest) =
 
 -- "Tag known? 31, place the chunk's offset."
 abbrev pub stopKnown : ℕ → Stop → Answer Unit
-stopKnown at RanOut = accepted tt
-stopKnown at (Trailer n) = accepted tt
-stopKnown at UnknownTag = refused (numbered 31 at)
+stopKnown at ranOut = accepted tt
+stopKnown at (trailer n) = accepted tt
+stopKnown at unknownTag = refused (numbered 31 at)
 
 unfoldable pub tagsKnown : ℕ → Walk → Answer Unit
 tagsKnown at (stop s) = stopKnown at s

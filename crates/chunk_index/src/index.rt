@@ -4,22 +4,19 @@ use chunk::advance_total;
 use demuxer::position::Position;
 use demuxer::walker::Walker;
 use error::AmvError;
-use error::AmvResult;
 use walk::ChunkAt;
 use walk::Kind;
 use walk::Step;
-use walk::Stop;
 use walk::step_at;
 ghost use mathlib.Core.Path.{_≡_};
 ghost use Prim.Native.Nat.{_*_, _≤_};
 ghost use lib.ListN.{length};
 ghost use Rattle.fields.specs.File.{fileLimit};
 ghost use Rattle.fields.specs.Le.{put};
-ghost use Rattle.error.specs.Refusal.{said};
 ghost use Rattle.demuxer.specs.Position.{start};
 ghost use Rattle.walk.specs.Walk.{fileWalk};
 ghost use Rattle.chunk_index.specs.Entry.{entryLen, tableBytes};
-ghost use Rattle.chunk_index.specs.Index.{stopKnown, records, buildOf, saidIndex};
+ghost use Rattle.chunk_index.specs.Index.{records, buildOf, saidIndex};
 ghost use Rattle.chunk_index.specs.Steps.{recordedAt, countRecords};
 
 // The number of records, or a refusal.
@@ -40,17 +37,6 @@ pub fn recorded(chunk: ChunkAt) -> bool
     }
 }
 
-// Refuses a walk that stops at an unknown tag: 31, at the chunk.
-pub fn ask_known(stop: Stop, at: u64) -> AmvResult
-    ensures { λ r. ⌜ said r ≡ stopKnown at stop ⌝ }
-{
-    match stop {
-        Stop::RanOut => AmvResult::Ok,
-        Stop::Trailer(_) => AmvResult::Ok,
-        Stop::UnknownTag => AmvResult::Err(AmvError::UnknownTag(at)),
-    }
-}
-
 // Counts the records of the walk. It reads headers only.
 fn count_records(file: &[u8]) -> IndexResult
     requires { ⌜ length (now file) ≤ fileLimit ⌝ }
@@ -60,14 +46,15 @@ fn count_records(file: &[u8]) -> IndexResult
     let mut count: usize = 0;
     loop {
         match step_at(file, at) {
-            Step::Stop(stop) => match ask_known(stop, at as u64) {
-                AmvResult::Ok => {
-                    return IndexResult::Ok(count);
-                }
-                AmvResult::Err(e) => {
-                    return IndexResult::Err(e);
-                }
-            },
+            Step::RanOut => {
+                return IndexResult::Ok(count);
+            }
+            Step::Trailer => {
+                return IndexResult::Ok(count);
+            }
+            Step::UnknownTag => {
+                return IndexResult::Err(AmvError::UnknownTag(at as u64));
+            }
             Step::Chunk(chunk) => {
                 if !recorded(chunk) {
                     return IndexResult::Ok(count);

@@ -1,10 +1,8 @@
 // The summary: how many frames and blocks a file has.
-use crate::index::ask_known;
 use crate::index::recorded;
 use chunk::advance_total;
 use demuxer::walker::Walker;
 use error::AmvError;
-use error::AmvResult;
 use walk::Kind;
 use walk::Step;
 use walk::step_at;
@@ -59,14 +57,15 @@ fn count_chunks(file: &[u8]) -> SummaryResult
     };
     loop {
         match step_at(file, at) {
-            Step::Stop(stop) => match ask_known(stop, at as u64) {
-                AmvResult::Ok => {
-                    return SummaryResult::Ok(counts);
-                }
-                AmvResult::Err(e) => {
-                    return SummaryResult::Err(e);
-                }
-            },
+            Step::RanOut => {
+                return SummaryResult::Ok(counts);
+            }
+            Step::Trailer => {
+                return SummaryResult::Ok(counts);
+            }
+            Step::UnknownTag => {
+                return SummaryResult::Err(AmvError::UnknownTag(at as u64));
+            }
             Step::Chunk(chunk) => {
                 if !recorded(chunk) {
                     return SummaryResult::Ok(counts);

@@ -16,9 +16,8 @@ use Rattle.demuxer.specs.declared.position.Position.{Position}
 use Rattle.prelude.specs.Prelude.{parseOf, validatedOf, strictOf}
 use Rattle.prelude.specs.declared.prelude.AmvPrelude.{AmvPrelude}
 use Rattle.walk.specs.Steps.{Walked, pastAt}
-use Rattle.walk.specs.Walk.{kindTag, Walk, stop, walk}
+use Rattle.walk.specs.Walk.{kindTag, Stop, Walk, stop, walk}
 use Rattle.walk.specs.declared.ChunkAt.{ChunkAt}
-use Rattle.walk.specs.declared.Stop.{Stop}
 use Rattle.walk.proofs.Walked.{walked-start}
 use Rattle.walk.proofs.Walks.{Goes, past-is, past-cursor, chunksBefore, one-more}
 use Rattle.finished.specs.Check.{passes, tagsOf, checkStop, checkFrom, allPaired, checkChunks, checkOf}

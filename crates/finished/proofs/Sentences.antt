@@ -29,12 +29,10 @@ use Rattle.prelude.specs.declared.prelude.AmvPrelude.{AmvPrelude}
 use Rattle.prelude.proofs.Local.{strict-local}
 use Rattle.prelude.proofs.Sentences.{strict-by}
 use Rattle.walk.specs.Chunks.{chunksBytes, walkOf}
-use Rattle.walk.specs.Walk.{chunkAt, onHead, stepAt, Walk, stop, chunk, onStep, walkFor, walk, fileWalk, past}
+use Rattle.walk.specs.Walk.{chunkAt, onHead, stepAt, Stop, ranOut, trailer, unknownTag, Walk, stop, chunk, onStep, walkFor, walk, fileWalk, past}
 use Rattle.walk.specs.declared.Kind.{Kind}
 use Rattle.walk.specs.declared.Kind.the-variants.{Frame, Sound}
 use Rattle.walk.specs.declared.Step.the-variants as step
-use Rattle.walk.specs.declared.Stop.{Stop}
-use Rattle.walk.specs.declared.Stop.the-variants.{RanOut, Trailer, UnknownTag}
 use Rattle.walk.proofs.Chunked.{chunks-walked}
 use Rattle.walk.proofs.Walks.{trailer-there, payload-size, by-cursor}
 use Rattle.finished.specs.Check.{passes, tagsOf, totalsAt, checkStop, checkFrom, allPaired, checkChunks, checkOf}
@@ -45,9 +43,9 @@ abbrev numbers : List ℕ
 numbers = strictNumbers ++ (60 ∷ 61 ∷ 31 ∷ [])
 
 stop-by : (p : Position) (paired : Bool) (s : Stop) → RefusedBy numbers (checkStop p paired s)
-stop-by p paired RanOut = refl
-stop-by p paired (Trailer n) = asked-by numbers (eqb n 0) 61 (p .cursor) (accepted _) refl tt
-stop-by p paired UnknownTag = refl
+stop-by p paired ranOut = refl
+stop-by p paired (trailer n) = asked-by numbers (eqb n 0) 61 (p .cursor) (accepted _) refl tt
+stop-by p paired unknownTag = refl
 
 from-by : (p : Position) (paired : Bool) (w : Walk) → RefusedBy numbers (checkFrom p paired w)
 unfolding checkFrom
@@ -98,7 +96,7 @@ walked-last : (n : ℕ) (file : List ℕ) (paired : Bool) (t : Totals) → Last 
 unfolding walkFor stepAt
 walked-last zero file paired t p at c x = ends x
   where
-    ends : checkFrom p paired (stop RanOut) ≡ accepted t → t .trailer + 8 ≡ length file
+    ends : checkFrom p paired (stop ranOut) ≡ accepted t → t .trailer + 8 ≡ length file
     ends y = unfold checkFrom in never (sym y)
 walked-last (suc n) file paired t p at c x =
     on-last file paired t p at c (walkFor n file) (walked-last n file paired t) (headAt file at) refl x
@@ -120,7 +118,7 @@ bare prelude p e n =
     let s : strictOf file ≡ accepted p =
     sym (strict-local file (le-leb (length file) fileLimit l)) ∙ ap strictOf (take-at prelude trailerBytes preludeLen n) ∙ e in
     let k : preludeLen ≡ length prelude = sym n in
-    let w : fileWalk file ≡ stop (Trailer 0) = ap (walk file) k ∙ chunks-walked prelude [] [] tt in
+    let w : fileWalk file ≡ stop (trailer 0) = ap (walk file) k ∙ chunks-walked prelude [] [] tt in
     ap (λ (x : Answer AmvPrelude). andThen x (λ _. checkChunks file)) s
     ∙ ap (λ (x : Walk). checkFrom start (passes (interleave (tagsOf x))) x) w
 

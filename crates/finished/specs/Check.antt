@@ -9,9 +9,7 @@ use Rattle.error.specs.Refusal.{refusalOf}
 use Rattle.demuxer.specs.Position.{start}
 use Rattle.demuxer.specs.declared.position.Position.{Position}
 use Rattle.prelude.specs.Prelude.{strictOf}
-use Rattle.walk.specs.Walk.{kindTag, Walk, stop, chunk, past, fileWalk}
-use Rattle.walk.specs.declared.Stop.{Stop}
-use Rattle.walk.specs.declared.Stop.the-variants.{RanOut, Trailer, UnknownTag}
+use Rattle.walk.specs.Walk.{kindTag, Stop, ranOut, trailer, unknownTag, Walk, stop, chunk, past, fileWalk}
 use Rattle.finished.specs.declared.Totals.{Totals}
 use Rattle.finished.specs.declared.CheckResult.{CheckResult}
 use Rattle.finished.specs.declared.CheckResult.the-variants.{Ok, Err}
@@ -31,9 +29,9 @@ totalsAt p paired = record { frames = p .frames .0; blocks = p .blocks .0; sampl
 
 -- "per chunk, 8 bytes? 60. If trailer, last 8 of the file? 61. Tag known? 31. .. Place: the chunk."
 abbrev pub checkStop : Position → Bool → Stop → Answer Totals
-checkStop p paired RanOut = refused (numbered 60 (p .cursor))
-checkStop p paired (Trailer n) = ask (eqb n 0) 61 (p .cursor) (accepted (totalsAt p paired))
-checkStop p paired UnknownTag = refused (numbered 31 (p .cursor))
+checkStop p paired ranOut = refused (numbered 60 (p .cursor))
+checkStop p paired (trailer n) = ask (eqb n 0) 61 (p .cursor) (accepted (totalsAt p paired))
+checkStop p paired unknownTag = refused (numbered 31 (p .cursor))
 
 -- "Payload whole? 60."
 unfoldable pub checkFrom : Position → Bool → Walk → Answer Totals

@@ -6,15 +6,15 @@ use error::AmvResult;
 use prelude::prelude::AmvPrelude;
 use prelude::prelude::AmvPreludeResult;
 use walk::Step;
-use walk::Stop;
 use walk::step_at;
 ghost use mathlib.Core.Path.{_≡_};
 ghost use mathlib.Core.Bool.{_&&_};
-ghost use Prim.Native.Nat.{_≤_, _+_};
+ghost use Prim.Native.Nat.{_≤_, _+_, _-_};
 ghost use lib.ListN.{length};
 ghost use Rattle.chunk.specs.Chunk.{kindOf};
 ghost use Rattle.chunk.specs.Interleave.{interleaveAt, even};
 ghost use Rattle.fields.specs.File.{fileLimit};
+ghost use Rattle.walk.specs.Walk.{trailer};
 ghost use Rattle.finished.specs.Check.{passes, checkStop, checkChunks, checkOf, saidCheck};
 
 // What the check answers of a finished recording.
@@ -56,26 +56,22 @@ fn paired_all(paired: bool, count: u64) -> bool
     count % 2 == 0
 }
 
-// The verdict where the walk stops: the trailer must be the file's last 8 bytes.
-fn check_stop(stop: Stop, position: Position, paired: bool) -> CheckResult
-    ensures { λ r. ⌜ saidCheck r ≡ checkStop position paired stop ⌝ }
+// The verdict at the trailer: it must be the file's last 8 bytes.
+fn check_trailer(file: &[u8], position: Position, paired: bool) -> CheckResult
+    requires { ⌜ position .cursor + 8 ≤ length (now file) ⌝ }
+    ensures { λ r. ⌜ saidCheck r ≡ checkStop position paired (trailer (length (now (file .entry)) - (position .cursor + 8))) ⌝ }
 {
-    match stop {
-        Stop::RanOut => CheckResult::Err(AmvError::ChunkCut(position.cursor)),
-        Stop::Trailer(after) => {
-            if after != 0 {
-                return CheckResult::Err(AmvError::AfterTrailer(position.cursor));
-            }
-            CheckResult::Ok(Totals {
-                frames: position.frames.0,
-                blocks: position.blocks.0,
-                samples: position.samples.0,
-                trailer: position.cursor,
-                paired,
-            })
-        }
-        Stop::UnknownTag => CheckResult::Err(AmvError::UnknownTag(position.cursor)),
+    let after = file.len() - (position.cursor as usize + 8);
+    if after != 0 {
+        return CheckResult::Err(AmvError::AfterTrailer(position.cursor));
     }
+    CheckResult::Ok(Totals {
+        frames: position.frames.0,
+        blocks: position.blocks.0,
+        samples: position.samples.0,
+        trailer: position.cursor,
+        paired,
+    })
 }
 
 // The chunks, one after another, each with its whole payload.
@@ -88,8 +84,14 @@ fn check_chunks(file: &[u8]) -> CheckResult
     loop {
         let number = position.frames.0 + position.blocks.0;
         match step_at(file, position.cursor as usize) {
-            Step::Stop(stop) => {
-                return check_stop(stop, position, paired_all(paired, number));
+            Step::RanOut => {
+                return CheckResult::Err(AmvError::ChunkCut(position.cursor));
+            }
+            Step::Trailer => {
+                return check_trailer(file, position, paired_all(paired, number));
+            }
+            Step::UnknownTag => {
+                return CheckResult::Err(AmvError::UnknownTag(position.cursor));
             }
             Step::Chunk(chunk) => {
                 if chunk.missing != 0 {

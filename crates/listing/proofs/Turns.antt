@@ -12,9 +12,8 @@ use Rattle.lines.proofs.Laws.{same-size}
 use Rattle.demuxer.specs.Position.{start}
 use Rattle.demuxer.specs.declared.position.Position.{Position}
 use Rattle.walk.specs.Steps.{Walked, pastAt}
-use Rattle.walk.specs.Walk.{stop, walk, fileWalk}
+use Rattle.walk.specs.Walk.{Stop, stop, walk, fileWalk}
 use Rattle.walk.specs.declared.ChunkAt.{ChunkAt}
-use Rattle.walk.specs.declared.Stop.{Stop}
 use Rattle.walk.proofs.Walked.{walked-start}
 use Rattle.walk.proofs.Walks.{Goes, past-is, past-cursor, chunksBefore, one-more}
 use Rattle.listing.specs.Listing.{lineAt, chunkLines, inputLimit}

@@ -30,10 +30,9 @@ use Rattle.demuxer.specs.Read.{payloadAt}
 use Rattle.demuxer.specs.declared.head.Head.{Head}
 use Rattle.demuxer.specs.declared.head.Head.the-variants as head
 use Rattle.demuxer.specs.declared.position.Position.{Position}
-use Rattle.walk.specs.Walk.{Walk, stop, onHead, stepAt, onStep, walkFor, walk, fileWalk, past, kindTag}
+use Rattle.walk.specs.Walk.{ranOut, Walk, stop, onHead, stepAt, onStep, walkFor, walk, fileWalk, past, kindTag}
 use Rattle.walk.specs.declared.Kind.{Kind}
 use Rattle.walk.specs.declared.Kind.the-variants.{Frame, Sound}
-use Rattle.walk.specs.declared.Stop.the-variants.{RanOut, Trailer}
 use Rattle.walk.specs.Chunks.{Chunk, chunkOf, chunkBytes, chunksBytes, Lengths, walkOf}
 use Rattle.walk.proofs.Chunked.{chunks-walked}
 use Rattle.finished.specs.Check.{passes, tagsOf, checkFrom, allPaired, checkChunks, checkOf}
@@ -223,7 +222,7 @@ accepted-chunks : (n : ℕ) (file : List ℕ) (at : ℕ) (p : Position) (paired 
 unfolding walkFor stepAt
 accepted-chunks zero file at p paired t b e = ends e
   where
-    ends : checkFrom p paired (stop RanOut) ≡ accepted t → Chunked file at
+    ends : checkFrom p paired (stop ranOut) ≡ accepted t → Chunked file at
     ends x = unfold checkFrom in never (sym x)
 accepted-chunks (suc n) file at p paired t b e =
     on-accepted file at p paired t (walkFor n file) (λ next q x. accepted-chunks n file next q paired t b x) b (headAt file at) (headed file at) e

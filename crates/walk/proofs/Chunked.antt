@@ -13,10 +13,9 @@ use Rattle.demuxer.specs.declared.head.Head.{Head}
 use Rattle.demuxer.specs.declared.head.Head.the-variants as head
 use Rattle.demuxer.proofs.Suffixes.{chunk-suffix, trailer-suffix, payload-suffix}
 use Rattle.walk.specs.Chunks.{Chunk, chunkOf, chunkBytes, chunksBytes, Lengths, walkOf}
-use Rattle.walk.specs.Walk.{kindTag, stop, chunk, chunkAt, onHead, stepAt, walk}
+use Rattle.walk.specs.Walk.{kindTag, trailer, stop, chunk, chunkAt, onHead, stepAt, walk}
 use Rattle.walk.specs.declared.Kind.{Kind}
 use Rattle.walk.specs.declared.Kind.the-variants.{Frame, Sound}
-use Rattle.walk.specs.declared.Stop.the-variants.{Trailer}
 use Rattle.walk.specs.declared.Step.the-variants as step
 use Rattle.walk.proofs.Walks.{step-means}
 
@@ -60,15 +59,14 @@ chunk-walked xs ys payload kind h =
     ∙ ap (λ (l : List ℕ). chunk kind l (n - length l) (walk file (length xs + (8 + n)))) p
     ∙ ap (λ (k : ℕ). chunk kind payload k (walk file (length xs + (8 + n)))) m
 
-trailer-walked : (xs ys : List ℕ) → walk (xs ++ (trailerBytes ++ ys)) (length xs) ≡ stop (Trailer (length ys))
+trailer-walked : (xs ys : List ℕ) → walk (xs ++ (trailerBytes ++ ys)) (length xs) ≡ stop (trailer (length ys))
 unfolding stepAt leBytes
 trailer-walked xs ys =
     let file : List ℕ = xs ++ ((leBytes 4 trailerTag ++ leBytes 4 trailerSize) ++ ys) in
     let e : headAt file (length xs) ≡ head.Trailer =
     rw append-assoc (trailer-suffix xs ys trailerTag trailerSize (omega arith) (omega arith) refl) in
     let n : length file - (length xs + 8) ≡ length ys = unfold leBytes in simp length-append (omega arith) in
-    step-means file (length xs) (step.Stop (Trailer (length file - (length xs + 8)))) (ap (onHead file (length xs)) e)
-    ∙ ap (λ (k : ℕ). stop (Trailer k)) n
+    step-means file (length xs) step.Trailer (ap (onHead file (length xs)) e) .is ∙ ap (λ (k : ℕ). stop (trailer k)) n
 
 pub chunks-walked : (xs : List ℕ) (cs : List Chunk) (ys : List ℕ) → Lengths cs
     → walk (xs ++ (chunksBytes cs ++ (trailerBytes ++ ys))) (length xs) ≡ walkOf cs (length ys)

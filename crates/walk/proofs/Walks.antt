@@ -2,6 +2,8 @@
 -- file's end and fuel for the bytes that are left is enough. Assumes nothing.
 use mathlib.Core.Path.{_≡_, refl, sym, ap, _∙_, subst}
 use mathlib.Core.List.{List}
+use mathlib.Core.Logic.{_⊎_, ⊎-elim}
+use denote.Enum.Declared.{declared, tagOf}
 use Prim.Native.Nat.{ℕ, zero, suc, _+_, _-_, _≤_, _<_}
 use native.Mathlib.Decide.{decLe}
 use native.Mathlib.Nat.{lt-of-not-le}
@@ -17,14 +19,13 @@ use Rattle.demuxer.specs.declared.head.Head.the-variants as head
 use Rattle.demuxer.specs.declared.position.Position.{Position}
 use Rattle.demuxer.proofs.Heads.{head-out}
 use Rattle.walk.specs.Steps.{pastAt}
-use Rattle.walk.specs.Walk.{Walk, stop, chunk, chunkAt, onHead, stepAt, onStep, walkFor, walk, pastBy, past}
+use Rattle.walk.specs.Walk.{chunkAt, onHead, stepAt, Stop, ranOut, trailer, unknownTag, Walk, stop, chunk, onStep, walkFor, walk, pastBy, past}
 use Rattle.walk.specs.declared.Kind.{Kind}
 use Rattle.walk.specs.declared.Kind.the-variants.{Frame, Sound}
-use Rattle.walk.specs.declared.Stop.{Stop}
-use Rattle.walk.specs.declared.Stop.the-variants.{RanOut}
 use Rattle.walk.specs.declared.ChunkAt.{ChunkAt}
 use Rattle.walk.specs.declared.Step.{Step}
 use Rattle.walk.specs.declared.Step.the-variants as step
+use Rattle.walk.proofs.Step.{enum}
 
 -- where there is one, its 8 bytes are
 pub head-there : (file : List ℕ) (at : ℕ) → (headAt file at ≡ head.Short → ⊥) → at + 8 ≤ length file
@@ -45,13 +46,15 @@ pub audio-there : (file : List ℕ) (at size : ℕ) → headAt file at ≡ head.
 audio-there file at size e = head-there file at (λ x. impossible cc)
 
 -- past the file's end nothing stands
-pub step-out : (file : List ℕ) (at : ℕ) → length file < at + 8 → stepAt file at ≡ step.Stop RanOut
+pub step-out : (file : List ℕ) (at : ℕ) → length file < at + 8 → stepAt file at ≡ step.RanOut
 unfolding stepAt
 step-out file at l = ap (onHead file at) (head-out file at l)
 
 -- the same step, and two walks that agree from 8 bytes on
 on-same : (file : List ℕ) (at : ℕ) (f g : ℕ → Walk) → ((n : ℕ) → at + 8 ≤ n → f n ≡ g n) → (s : Step) → onStep file at f s ≡ onStep file at g s
-on-same file at f g e (step.Stop s) = refl
+on-same file at f g e step.RanOut = refl
+on-same file at f g e step.Trailer = refl
+on-same file at f g e step.UnknownTag = refl
 on-same file at f g e (step.Chunk c) = ap (chunk (c .kind) (payloadAt file at (c .size)) (c .missing)) (e (at + (8 + c .size)) (omega arith))
 
 -- so fuel for the bytes that are left is enough
@@ -96,8 +99,15 @@ pub record Goes (file : List ℕ) (at : ℕ) (c : ChunkAt) : Type 0 where
   pub size-is : length (payloadAt file at (c .size)) + c .missing ≡ c .size
   pub is : walk file at ≡ chunk (c .kind) (payloadAt file at (c .size)) (c .missing) (walk file (at + (8 + c .size)))
 
+-- the trailer, which lies in the file
+pub record Ends (file : List ℕ) (at : ℕ) : Type 0 where
+  pub there : at + 8 ≤ length file
+  pub is : walk file at ≡ stop (trailer (length file - (at + 8)))
+
 abbrev pub Means : List ℕ → ℕ → Step → Type 0
-Means file at (step.Stop s) = walk file at ≡ stop s
+Means file at step.RanOut = walk file at ≡ stop ranOut
+Means file at step.Trailer = Ends file at
+Means file at step.UnknownTag = walk file at ≡ stop unknownTag
 Means file at (step.Chunk c) = Goes file at c
 
 goes : (file : List ℕ) (at : ℕ) (kind : Kind) (size : ℕ) → stepAt file at ≡ step.Chunk (chunkAt file at kind size)
@@ -111,7 +121,11 @@ means file at = on (headAt file at) refl
   where
     on : (h : Head) → headAt file at ≡ h → Means file at (onHead file at h)
     on head.Short e = walk-step file at ∙ ap (λ (h : Head). onStep file at (walk file) (onHead file at h)) e
-    on head.Trailer e = walk-step file at ∙ ap (λ (h : Head). onStep file at (walk file) (onHead file at h)) e
+    on head.Trailer e =
+        record {
+          there = trailer-there file at e;
+          is = walk-step file at ∙ ap (λ (h : Head). onStep file at (walk file) (onHead file at h)) e;
+        }
     on head.Unknown e = walk-step file at ∙ ap (λ (h : Head). onStep file at (walk file) (onHead file at h)) e
     on (head.Video size) e = goes file at Frame size (ap (onHead file at) e) (video-there file at size e)
     on (head.Audio size) e = goes file at Sound size (ap (onHead file at) e) (audio-there file at size e)
@@ -119,7 +133,19 @@ means file at = on (headAt file at) refl
 pub step-means : (file : List ℕ) (at : ℕ) (x : Step) → stepAt file at ≡ x → Means file at x
 step-means file at x e = subst (Means file at) e (means file at)
 
--- and the position after it, as the code counts it
+-- what is no chunk is a stop
+pub stopped : (file : List ℕ) (at : ℕ) (x : Step) → stepAt file at ≡ x
+    → (tagOf (declared enum) x ≡ 0) ⊎ ((tagOf (declared enum) x ≡ 1) ⊎ (tagOf (declared enum) x ≡ 2)) → (s : Stop) × (walk file at ≡ stop s)
+stopped file at x e k = by x k (step-means file at x e)
+  where
+    by : (x : Step) → (tagOf (declared enum) x ≡ 0) ⊎ ((tagOf (declared enum) x ≡ 1) ⊎ (tagOf (declared enum) x ≡ 2)) → Means file at x
+        → (s : Stop) × (walk file at ≡ stop s)
+    by step.RanOut k m = (ranOut, m)
+    by step.Trailer k m = (trailer (length file - (at + 8)), m .is)
+    by step.UnknownTag k m = (unknownTag, m)
+    by (step.Chunk c) k m = absurd (⊎-elim (λ e. omega arith) (λ r. ⊎-elim (λ e. omega arith) (λ e. omega arith) r) k)
+
+-- and the position after a chunk, as the code counts it
 pub past-is : (file : List ℕ) (p : Position) (c : ChunkAt) → Goes file (p .cursor) c
     → past p (c .kind) (payloadAt file (p .cursor) (c .size)) (c .missing) ≡ pastAt file p c
 past-is file p c g = ap (λ (n : ℕ). pastBy p (c .kind) n (countOf (payloadAt file (p .cursor) (c .size)))) (g .size-is)

@@ -4,9 +4,8 @@ use mathlib.Core.List.{List, [], _∷_, _++_}
 use lib.ListN.{length}
 use Rattle.chunk.specs.Chunk.{payloadLimit}
 use Rattle.fields.specs.Le.{leBytes}
-use Rattle.walk.specs.Walk.{kindTag, Walk, stop, chunk}
+use Rattle.walk.specs.Walk.{kindTag, trailer, Walk, stop, chunk}
 use Rattle.walk.specs.declared.Kind.{Kind}
-use Rattle.walk.specs.declared.Stop.the-variants.{Trailer}
 
 -- a chunk: its kind and its whole payload
 pub data Chunk : Type 0 where
@@ -27,5 +26,5 @@ Lengths (chunkOf kind payload ∷ cs) = (length payload ≤ payloadLimit) × Len
 
 -- the walk over whole chunks and the trailer, with n bytes after it
 unfoldable pub walkOf : List Chunk → ℕ → Walk
-walkOf [] n = stop (Trailer n)
+walkOf [] n = stop (trailer n)
 walkOf (chunkOf kind payload ∷ cs) n = chunk kind payload 0 (walkOf cs n)

@@ -13,8 +13,6 @@ use Rattle.demuxer.specs.declared.head.Head.the-variants as head
 use Rattle.demuxer.specs.declared.position.Position.{Position}
 use Rattle.walk.specs.declared.Kind.{Kind}
 use Rattle.walk.specs.declared.Kind.the-variants.{Frame, Sound}
-use Rattle.walk.specs.declared.Stop.{Stop}
-use Rattle.walk.specs.declared.Stop.the-variants as stops
 use Rattle.walk.specs.declared.ChunkAt.{ChunkAt}
 use Rattle.walk.specs.declared.Step.{Step}
 use Rattle.walk.specs.declared.Step.the-variants as step
@@ -32,17 +30,23 @@ isFrame Sound = false
 abbrev pub chunkAt : List ℕ → ℕ → Kind → ℕ → ChunkAt
 chunkAt file at kind size = record { kind = kind; size = size; missing = size - length (payloadAt file at size) }
 
--- a walk stops at fewer than 8 bytes, at the trailer with so many bytes after it, at an unknown tag; else it goes past a chunk
+-- a walk stops at fewer than 8 bytes, at the trailer, at an unknown tag; else it goes past a chunk
 abbrev pub onHead : List ℕ → ℕ → Head → Step
-onHead file at head.Short = step.Stop stops.RanOut
-onHead file at head.Trailer = step.Stop (stops.Trailer (length file - (at + 8)))
-onHead file at head.Unknown = step.Stop stops.UnknownTag
+onHead file at head.Short = step.RanOut
+onHead file at head.Trailer = step.Trailer
+onHead file at head.Unknown = step.UnknownTag
 onHead file at (head.Video size) = step.Chunk (chunkAt file at Frame size)
 onHead file at (head.Audio size) = step.Chunk (chunkAt file at Sound size)
 
 -- one step, by what stands at an offset
 unfoldable pub stepAt : List ℕ → ℕ → Step
 stepAt file at = onHead file at (headAt file at)
+
+-- where it stops: the trailer has so many bytes after it
+pub data Stop : Type 0 where
+  ranOut : Stop
+  trailer : ℕ → Stop
+  unknownTag : Stop
 
 -- a walk is its chunks, each with its kind, the bytes of its payload that are there and how many are missing, and where it stops
 pub data Walk : Type 0 where
@@ -51,12 +55,14 @@ pub data Walk : Type 0 where
 
 -- a step, and the walk from the next offset
 abbrev pub onStep : List ℕ → ℕ → (ℕ → Walk) → Step → Walk
-onStep file at rest (step.Stop s) = stop s
+onStep file at rest step.RanOut = stop ranOut
+onStep file at rest step.Trailer = stop (trailer (length file - (at + 8)))
+onStep file at rest step.UnknownTag = stop unknownTag
 onStep file at rest (step.Chunk c) = chunk (c .kind) (payloadAt file at (c .size)) (c .missing) (rest (at + advanceTotal (c .size)))
 
 -- at most so many chunks from an offset
 unfoldable pub walkFor : ℕ → List ℕ → ℕ → Walk
-walkFor zero file at = stop stops.RanOut
+walkFor zero file at = stop ranOut
 walkFor (suc n) file at = onStep file at (walkFor n file) (stepAt file at)
 
 -- every chunk takes 8 bytes at least, so there are fewer of them than bytes

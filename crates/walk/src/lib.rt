@@ -40,16 +40,6 @@ impl Kind {
     }
 }
 
-// Where a walk stops.
-pub enum Stop {
-    // Fewer than 8 bytes are left.
-    RanOut,
-    // The trailer, with so many bytes after it.
-    Trailer(usize),
-    // A tag that is neither a kind's nor the trailer's.
-    UnknownTag,
-}
-
 // A chunk, as far as the file has it.
 pub struct ChunkAt {
     pub kind: Kind,
@@ -59,9 +49,13 @@ pub struct ChunkAt {
     pub missing: u32,
 }
 
-// What a walk meets at an offset.
+// What a walk meets at an offset; it stops at all but a chunk. One variant alone holds something, so that no two share their bytes.
 pub enum Step {
-    Stop(Stop),
+    // Fewer than 8 bytes are left.
+    RanOut,
+    Trailer,
+    // A tag that is neither a kind's nor the trailer's.
+    UnknownTag,
     Chunk(ChunkAt),
 }
 
@@ -83,9 +77,9 @@ pub fn step_at(file: &[u8], at: usize) -> Step
     ensures { λ r. ⌜ r ≡ stepAt (now (file .entry)) at ⌝ }
 {
     match head_at(file, at) {
-        Head::Short => Step::Stop(Stop::RanOut),
-        Head::Trailer => Step::Stop(Stop::Trailer(file.len() - (at + 8))),
-        Head::Unknown => Step::Stop(Stop::UnknownTag),
+        Head::Short => Step::RanOut,
+        Head::Trailer => Step::Trailer,
+        Head::Unknown => Step::UnknownTag,
         Head::Video(size) => Step::Chunk(chunk_at(file, at, Kind::Frame, size)),
         Head::Audio(size) => Step::Chunk(chunk_at(file, at, Kind::Sound, size)),
     }

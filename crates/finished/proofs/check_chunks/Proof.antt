@@ -1,15 +1,16 @@
 -- `finished::check_chunks` meets its contract. The invariant `Checking`: checking on from here over the rest of the walk is the whole check, and the
 -- pairs so far with those of the rest are all of them. The measure is the bytes of the file from here on, of which each chunk takes 8.
 -- Assumes nothing.
-use mathlib.Core.Path.{_≡_, sym, ap, _∙_, subst}
+use mathlib.Core.Path.{sym, ap, _∙_, subst}
 use mathlib.Core.Bool.{Bool}
-use Prim.Native.Nat.{_-_}
+use Prim.Native.Nat.{_+_, _-_}
 use native.Mathlib.Omega.{arith}
 use borrow.Author.Needs.{needs}
 use lib.ListN.{length}
 use Rattle.walk.specs.Steps.{Walked}
-use Rattle.walk.specs.Walk.{stop, walk}
-use Rattle.walk.proofs.Walks.{Goes, step-means, past-cursor}
+use Rattle.walk.specs.Walk.{trailer}
+use Rattle.walk.specs.declared.Step.the-variants as step
+use Rattle.walk.proofs.Walks.{Goes, Ends, step-means, past-cursor}
 use Rattle.finished.specs.Check.{checkStop}
 use Rattle.finished.proofs.Checking.{Checking, check-start, check-stopped, check-cut, check-on}
 use Rattle.finished.proofs.check_chunks.Statement.{statement}
@@ -21,11 +22,10 @@ Inv-loop file position₀ paired₀ position paired = Checking file position pai
 abbrev μ-loop : tie.MeasureT-loop
 μ-loop file position₀ paired₀ position paired = length file - position .cursor
 
--- the stop or the chunk that the step found
-stopped : (c : tie.After-stop Inv-loop μ-loop)
-    → walk (c .before .before .before .before .before .before .before .args .file .now) (c .before .before .before .before .loop .position .cursor)
-    ≡ stop (c .stop .given .0 .0)
-stopped c = step-means _ _ _ (sym (c .before .before .step-at .ensures) ∙ c .stop .given .1)
+-- the trailer or the chunk that the step found
+ends : (c : tie.After-enum-told2 Inv-loop μ-loop)
+    → Ends (c .before .before .before .before .before .before .before .args .file .now) (c .before .before .before .before .loop .position .cursor)
+ends c = step-means _ _ step.Trailer (sym (c .before .before .step-at .ensures) ∙ c .enum-told2 .given .1)
 
 found : (c : tie.After-chunk Inv-loop μ-loop)
     → Goes (c .before .before .before .before .before .before .before .args .file .now) (c .before .before .before .before .loop .position .cursor)
@@ -46,28 +46,45 @@ add-number c =
 step-at-requires : tie.Need-step-at-requires Inv-loop μ-loop
 step-at-requires c κs = search needs
 
-enum-known-stop : tie.Need-enum-known-stop Inv-loop μ-loop
-enum-known-stop c = search needs
+enum-told : tie.Need-enum-told Inv-loop μ-loop
+enum-told c = search needs
+
+returns : tie.Need-returns Inv-loop μ-loop
+returns c =
+    let l = c .before .before .before .before .loop in
+    check-stopped (l .inv) (step-means _ _ step.RanOut (sym (c .before .before .step-at .ensures) ∙ c .enum-told .given .1))
+
+enum-told-2 : tie.Need-enum-told-2 Inv-loop μ-loop
+enum-told-2 c = search needs
 
 paired-all-requires : tie.Need-paired-all-requires Inv-loop μ-loop
 paired-all-requires c κs = search needs
 
-check-stop-requires : tie.Need-check-stop-requires Inv-loop μ-loop
-check-stop-requires c κs = search needs
+check-trailer-requires : tie.Need-check-trailer-requires Inv-loop μ-loop
+check-trailer-requires c κs = ends (c .before) .there
 
-returns : tie.Need-returns Inv-loop μ-loop
-returns c =
-    let s = c .before .before .before in
+returns-2 : tie.Need-returns-2 Inv-loop μ-loop
+returns-2 c =
+    let s = c .before .before in
     let l = s .before .before .before .before .loop in
-    c .check-stop .ensures
-    ∙ ap (λ (b : Bool). checkStop (l .position) b (s .stop .given .0 .0)) (c .before .paired-all .ensures)
-    ∙ check-stopped (l .inv) (stopped s)
+    let after = length (s .before .before .before .before .before .before .before .args .file .now) - (l .position .cursor + 8) in
+    c .check-trailer .ensures
+    ∙ ap (λ (b : Bool). checkStop (l .position) b (trailer after)) (c .before .paired-all .ensures)
+    ∙ check-stopped (l .inv) (ends s .is)
+
+enum-told-3 : tie.Need-enum-told-3 Inv-loop μ-loop
+enum-told-3 c = search needs
+
+returns-3 : tie.Need-returns-3 Inv-loop μ-loop
+returns-3 c =
+    let l = c .before .before .before .before .loop in
+    check-stopped (l .inv) (step-means _ _ step.UnknownTag (sym (c .before .before .step-at .ensures) ∙ c .enum-told3 .given .1))
 
 enum-known-chunk : tie.Need-enum-known-chunk Inv-loop μ-loop
 enum-known-chunk c = search needs
 
-returns-2 : tie.Need-returns-2 Inv-loop μ-loop
-returns-2 c =
+returns-4 : tie.Need-returns-4 Inv-loop μ-loop
+returns-4 c =
     let s = c .before .before .before in
     check-cut (s .before .before .before .before .loop .inv) (found s) (c .if1 .taken)
 
@@ -107,12 +124,16 @@ check-chunks-spec =
     loop-holds
     add-number
     step-at-requires
-    enum-known-stop
-    paired-all-requires
-    check-stop-requires
+    enum-told
     returns
-    enum-known-chunk
+    enum-told-2
+    paired-all-requires
+    check-trailer-requires
     returns-2
+    enum-told-3
+    returns-3
+    enum-known-chunk
+    returns-4
     tag-requires
     paired-on-requires
     past-requires

@@ -7,7 +7,7 @@ use native.Mathlib.Omega.{arith}
 use borrow.Author.Needs.{needs}
 use lib.ListN.{length}
 use Rattle.walk.specs.Steps.{Walked}
-use Rattle.walk.proofs.Walks.{Goes, step-means, past-cursor}
+use Rattle.walk.proofs.Walks.{Goes, step-means, stopped, past-cursor}
 use Rattle.listing.proofs.Turns.{Listing, lines-stop, listing-starts, listing-ends, one-fits, listing-more}
 use Rattle.listing.proofs.put_chunk_lines.Statement.{statement}
 use Rattle.listing.proofs.put_chunk_lines.Tie as tie
@@ -36,17 +36,14 @@ step-at-requires c κs = search needs
 enum-known-chunk : tie.Need-enum-known-chunk Inv-loop μ-loop
 enum-known-chunk c = search needs
 
-enum-told : tie.Need-enum-told Inv-loop μ-loop
-enum-told c = search needs
-
 same-length : tie.Need-same-length Inv-loop μ-loop
-same-length c = c .before .before .before .loop .inv .kept
+same-length c = c .before .before .loop .inv .kept
 
 returns : tie.Need-returns Inv-loop μ-loop
 returns c =
-    let l = c .before .before .before .loop in
-    let e = step-means _ _ _ (sym (c .before .before .step-at .ensures) ∙ c .enum-told .given .1) in (
-      listing-ends (l .inv) (c .before .before .before .before .before .before .before .pre .0) (lines-stop _ (l .position) e),
+    let l = c .before .before .loop in
+    let e = stopped _ _ _ (sym (c .before .step-at .ensures)) (c .match .keys2) .1 in (
+      listing-ends (l .inv) (c .before .before .before .before .before .before .pre .0) (lines-stop _ (l .position) e),
       omega (arith, l .inv .few, l .inv .short),
     )
 
@@ -93,7 +90,6 @@ put-chunk-lines-spec =
     loop-holds
     step-at-requires
     enum-known-chunk
-    enum-told
     same-length
     returns
     is-frame-requires

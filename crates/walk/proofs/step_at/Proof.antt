@@ -1,11 +1,10 @@
 -- `walk::step_at` meets its contract. Each arm is the step of the header that was found, and a header that is one lies in the file.
 -- Assumes nothing.
 use mathlib.Core.Path.{sym, ap, _∙_}
-use native.Mathlib.Omega.{arith}
 use borrow.Author.Needs.{needs}
 use Rattle.walk.specs.Walk.{onHead, stepAt}
 use Rattle.walk.specs.declared.Step.the-variants as step
-use Rattle.walk.proofs.Walks.{trailer-there, video-there, audio-there}
+use Rattle.walk.proofs.Walks.{video-there, audio-there}
 use Rattle.walk.proofs.step_at.Statement.{statement}
 use Rattle.walk.proofs.step_at.Tie as tie
 
@@ -17,12 +16,6 @@ enum-told c = search needs
 
 enum-told-2 : tie.Need-enum-told-2
 enum-told-2 c = search needs
-
-add-t9 : tie.Need-add-t9
-add-t9 c = omega (arith, trailer-there _ _ (sym (c .before .before .head-at .ensures) ∙ c .enum-told2 .given .1))
-
-sub-t10 : tie.Need-sub-t10
-sub-t10 c = omega (arith, trailer-there _ _ (sym (c .before .before .head-at .ensures) ∙ c .enum-told2 .given .1))
 
 enum-told-3 : tie.Need-enum-told-3
 enum-told-3 c = search needs
@@ -78,8 +71,6 @@ step-at-spec =
     head-at-requires
     enum-told
     enum-told-2
-    add-t9
-    sub-t10
     enum-told-3
     enum-known-size
     chunk-at-requires

@@ -10,7 +10,7 @@ use borrow.Author.Tests.{not-true, not-false}
 use lib.ListN.{length}
 use Rattle.walk.specs.Steps.{Walked}
 use Rattle.walk.proofs.Walked.{walked-start}
-use Rattle.walk.proofs.Walks.{Goes, step-means, past-cursor}
+use Rattle.walk.proofs.Walks.{Goes, step-means, stopped, past-cursor}
 use Rattle.chunk_index.specs.Steps.{recordedAt}
 use Rattle.chunk_index.proofs.Folds.{records-stop, records-end}
 use Rattle.chunk_index.proofs.Writing.{Writing, walked-small, write-end, write-room, write-more}
@@ -47,16 +47,13 @@ step-at-requires c κs = search needs
 enum-known-chunk : tie.Need-enum-known-chunk Inv-loop μ-loop
 enum-known-chunk c = search needs
 
-enum-told : tie.Need-enum-told Inv-loop μ-loop
-enum-told c = search needs
-
 same-length : tie.Need-same-length Inv-loop μ-loop
-same-length c = c .before .before .before .loop .inv .kept
+same-length c = c .before .before .loop .inv .kept
 
 returns : tie.Need-returns Inv-loop μ-loop
 returns c =
-    let l = c .before .before .before .loop in
-    write-end (l .inv) (records-stop _ (l .position) (step-means _ _ _ (sym (c .before .before .step-at .ensures) ∙ c .enum-told .given .1)))
+    let l = c .before .before .loop in
+    write-end (l .inv) (records-stop _ (l .position) (stopped _ _ _ (sym (c .before .step-at .ensures)) (c .match .keys2) .1))
 
 recorded-requires : tie.Need-recorded-requires Inv-loop μ-loop
 recorded-requires c κs = search needs
@@ -122,7 +119,6 @@ write-records-spec =
     loop-holds
     step-at-requires
     enum-known-chunk
-    enum-told
     same-length
     returns
     recorded-requires
