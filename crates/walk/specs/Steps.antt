@@ -15,9 +15,9 @@ use Rattle.walk.specs.declared.ChunkAt.{ChunkAt}
 abbrev pub pastAt : List ℕ → Position → ChunkAt → Position
 pastAt file p c = pastBy p (c .kind) (c .size) (countOf (payloadAt file (p .cursor) (c .size)))
 
--- what holds of every position of a walk from the prelude's end: a header stood within the limit, each chunk took 8 bytes, each block had at
--- most a u32 of samples
+-- what holds of every position of a walk from the prelude's end: a header stood within the limit, each chunk took 8 bytes, and a block took 16
+-- for a u32 of samples, since its count is a part of its payload
 pub record Walked (p : Position) : Type 0 where
   pub cursor-le : p .cursor ≤ fileLimit + payloadLimit
   pub chunks-le : preludeLen + 8 * (p .frames .0 + p .blocks .0) ≤ p .cursor
-  pub samples-le : p .samples .0 ≤ u32Max * p .blocks .0
+  pub samples-le : 16 * p .samples .0 ≤ u32Max * p .cursor
