@@ -18,7 +18,7 @@ use Rattle.demuxer.specs.declared.packet.PacketDuration.the-variants.{Ticks, No
 use Rattle.walk.specs.Chunks.{Chunk}
 use Rattle.recording.specs.Grammar.{Finished}
 use Rattle.recording.specs.Machine.{Call, read, seek, CallAnswer, readAnswer, seekAnswer, call, answers, after, Agreed, OwnIndex}
-use Rattle.rows.specs.Rows.{oneLength, callsFrom, Step, rowsOf, numbers, rowsIn}
+use Rattle.rows.specs.Rows.{oneLength, callsFrom, CallStep, rowsOf, numbers, rowsIn}
 use Rattle.replay.specs.declared.Row.{Row}
 use Rattle.replay.specs.declared.CallsResult.{CallsResult}
 use Rattle.replay.specs.declared.CallsResult.the-variants.{Done, Unequal, NoRoom}
@@ -61,7 +61,7 @@ rowOf w (readAnswer a) = readRow w a
 rowOf w (seekAnswer a) = soughtRow a
 
 -- a call puts the row of its answer, and the next one gets the walker that it leaves
-abbrev pub step : List ℕ → List ℕ → Step Walker Call
+abbrev pub step : List ℕ → List ℕ → CallStep Walker Call
 step file table = record { row = λ w c. rowWords (rowOf w (call file table w c .answer)); next = λ w c. call file table w c .walker }
 
 -- the other way round, the answer that a row says: a packet's payload is the part of the file that the row names

@@ -13,7 +13,7 @@ use Rattle.muxer.specs.Writer.{fresh}
 use Rattle.muxer.specs.declared.Settings.{Settings}
 use Rattle.muxer.specs.declared.Writer.{Writer}
 use Rattle.recording.specs.WriteLists.{WriteCall, header, packet, trailer, writeStep, writerAfter, bufferAfter, WritesAgreed}
-use Rattle.rows.specs.Rows.{oneLength, callsFrom, Step, rowsOf, numbers, rowsIn}
+use Rattle.rows.specs.Rows.{oneLength, callsFrom, CallStep, rowsOf, numbers, rowsIn}
 use Rattle.replay_writes.specs.declared.WritesResult.{WritesResult}
 use Rattle.replay_writes.specs.declared.WritesResult.the-variants.{Done, Unequal, NoRoom}
 
@@ -54,7 +54,7 @@ abbrev pub begun : Settings → List ℕ → State
 begun s buf = record { writer = fresh s; buffer = buf }
 
 -- a call puts its verdict, and the next one finds the writer and the buffer that it leaves
-abbrev pub step : Step State WriteCall
+abbrev pub step : CallStep State WriteCall
 step =
     record {
       row = λ s c. verdict (writeStep (s .writer) (s .buffer) c .answer);

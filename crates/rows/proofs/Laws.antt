@@ -11,7 +11,7 @@ use lib.ListN.{length}
 use lib.Seq.{take-at, drop-at}
 use Rattle.fields.specs.Le.{put}
 use Rattle.fields.proofs.Laws.{length-put, put-put, put-nothing}
-use Rattle.rows.specs.Rows.{oneLength, callsFrom, Step, rowsOf, stateAfter, numbers, rowsIn}
+use Rattle.rows.specs.Rows.{oneLength, callsFrom, CallStep, rowsOf, stateAfter, numbers, rowsIn}
 
 -- one length that differs, wherever it stands
 pub unequal : (n : ℕ) (before : List ℕ) (m : ℕ) (more : List ℕ) → (m ≡ n → ⊥) → oneLength n (before ++ (m ∷ more)) ≡ false
@@ -26,7 +26,7 @@ length-calls call at (suc n) = ap suc (length-calls call (at + 1) n)
 -- ---- the run
 
 -- before call i of n, whose row goes to `at`: the calls left give the rest
-pub record Going {S C : Type 0} (m : Step S C) (width : ℕ) (call : ℕ → C) (n : ℕ) (s₀ : S) (before : List ℕ) (s : S) (rows : List ℕ)
+pub record Going {S C : Type 0} (m : CallStep S C) (width : ℕ) (call : ℕ → C) (n : ℕ) (s₀ : S) (before : List ℕ) (s : S) (rows : List ℕ)
     (i at : ℕ) : Type 0 where
   pub room : n * width ≤ length before
   pub held : length before < 18446744073709551616
@@ -35,7 +35,7 @@ pub record Going {S C : Type 0} (m : Step S C) (width : ℕ) (call : ℕ → C) 
   pub state-is : stateAfter m s (callsFrom call i (n - i)) ≡ stateAfter m s₀ (callsFrom call 0 n)
   pub rows-are : put rows at (numbers (rowsOf m s (callsFrom call i (n - i)))) ≡ put before 0 (numbers (rowsOf m s₀ (callsFrom call 0 n)))
 
-module _ {S C : Type 0} (m : Step S C) (width : ℕ) (call : ℕ → C) (n : ℕ) (s₀ : S) (before : List ℕ) where
+module _ {S C : Type 0} (m : CallStep S C) (width : ℕ) (call : ℕ → C) (n : ℕ) (s₀ : S) (before : List ℕ) where
   pub going-first : n * width ≤ length before → length before < 18446744073709551616 → Going m width call n s₀ before s₀ before 0 0
   going-first h f =
       let z : n - 0 ≡ n = omega arith in
@@ -90,7 +90,7 @@ module _ {S C : Type 0} (m : Step S C) (width : ℕ) (call : ℕ → C) (n : ℕ
 
 -- ---- the rows read back
 
-rows-read : {S C : Type 0} (m : Step S C) (width : ℕ) → ((s : S) (c : C) → length (m .row s c) ≡ width)
+rows-read : {S C : Type 0} (m : CallStep S C) (width : ℕ) → ((s : S) (c : C) → length (m .row s c) ≡ width)
     → (s : S) (calls : List C) (rest : List ℕ) → rowsIn width (length calls) (numbers (rowsOf m s calls) ++ rest) ≡ rowsOf m s calls
 unfolding rowsOf numbers rowsIn
 rows-read m width wide s [] rest = refl
@@ -100,7 +100,7 @@ rows-read m width wide s (c ∷ cs) rest =
     rw (append-assoc row more rest, take-at row (more ++ rest) width (wide s c), drop-at row (more ++ rest) width (wide s c))
     (ap (λ rs. row ∷ rs) (rows-read m width wide (m .next s c) cs rest))
 
-pub rows-back : {S C : Type 0} (m : Step S C) (width : ℕ) → ((s : S) (c : C) → length (m .row s c) ≡ width) → (call : ℕ → C) (n : ℕ) (s : S)
+pub rows-back : {S C : Type 0} (m : CallStep S C) (width : ℕ) → ((s : S) (c : C) → length (m .row s c) ≡ width) → (call : ℕ → C) (n : ℕ) (s : S)
     (before : List ℕ) → rowsIn width n (put before 0 (numbers (rowsOf m s (callsFrom call 0 n)))) ≡ rowsOf m s (callsFrom call 0 n)
 unfolding put
 rows-back m width wide call n s before =

@@ -16,17 +16,17 @@ callsFrom call at zero = []
 callsFrom call at (suc n) = call at ∷ callsFrom call (at + 1) n
 
 -- what a call does in a state: the numbers of its answer, and the state that the next call gets
-pub record Step (S C : Type 0) : Type 0 where
+pub record CallStep (S C : Type 0) : Type 0 where
   pub row : S → C → List ℕ
   pub next : S → C → S
 
 -- the rows of a list of calls, in their order
-unfoldable pub rowsOf : {S C : Type 0} → Step S C → S → List C → List (List ℕ)
+unfoldable pub rowsOf : {S C : Type 0} → CallStep S C → S → List C → List (List ℕ)
 rowsOf m s [] = []
 rowsOf m s (c ∷ cs) = m .row s c ∷ rowsOf m (m .next s c) cs
 
 -- the state after the last call
-unfoldable pub stateAfter : {S C : Type 0} → Step S C → S → List C → S
+unfoldable pub stateAfter : {S C : Type 0} → CallStep S C → S → List C → S
 stateAfter m s [] = s
 stateAfter m s (c ∷ cs) = stateAfter m (m .next s c) cs
 
