@@ -21,7 +21,7 @@ impl AmvMuxer {
         }
     }
 
-    // MuxerWrites the prelude, and must be the first call. Refuses a writer that has begun (50) or ended (55), and a buffer that is too small (54).
+    // Writes the prelude, and must be the first call. Refuses a writer that has begun (50) or ended (55), and a buffer that is too small (54).
     pub fn write_header(&mut self, buf: &mut [u8]) -> AmvResult
         ensures { λ r. ⌜ MuxerWrites (headerCall (now (self .entry) .writer) (now (buf .entry))) r (now (self .exit)) (now (buf .exit)) ⌝ }
     {
@@ -30,7 +30,7 @@ impl AmvMuxer {
         wrote.result
     }
 
-    // MuxerWrites a packet after what is written: stream 0 is a picture, 1 is sound. Refuses a writer that has not begun (51), has ended (55) or whose
+    // Writes a packet after what is written: stream 0 is a picture, 1 is sound. Refuses a writer that has not begun (51), has ended (55) or whose
     // count is below the prelude (56), a payload over 32 bits (52), another stream (53), and a packet that the buffer or a file cannot hold (54).
     pub fn write_packet(&mut self, buf: &mut [u8], payload: &[u8], stream: u32) -> AmvResult
         ensures { λ r. ⌜ MuxerWrites (packetCall (now (self .entry) .writer) (now (payload .entry)) stream (now (buf .entry)))
@@ -41,7 +41,7 @@ impl AmvMuxer {
         wrote.result
     }
 
-    // MuxerWrites the trailer, and the run length into the prelude, and must be the last call. Refuses as write_packet does, with 51, 55, 56 and 54.
+    // Writes the trailer, and the run length into the prelude, and must be the last call. Refuses as write_packet does, with 51, 55, 56 and 54.
     pub fn write_trailer(&mut self, buf: &mut [u8]) -> AmvResult
         ensures { λ r. ⌜ MuxerWrites (trailerCall (now (self .entry) .writer) (now (buf .entry))) r (now (self .exit)) (now (buf .exit)) ⌝ }
     {

@@ -208,7 +208,7 @@ pub extern "C" fn amv_seek_to_via_index(
     }
 }
 
-// WriterCall the prelude, the first call of a writer. Refuses with 1, 50, 55 and 54.
+// Writes the prelude, the first call of a writer. Refuses with 1, 50, 55 and 54.
 #[no_mangle]
 pub extern "C" fn amv_write_header(writer: &mut [u64; 9], buf: &mut [u8], out: &mut [u64; 1]) -> u32
     ensures { λ r. ⌜ WriterCall (λ w. headerCall w (now (buf .entry)))
@@ -225,7 +225,7 @@ pub extern "C" fn amv_write_header(writer: &mut [u64; 9], buf: &mut [u8], out: &
     result_out(result, out)
 }
 
-// WriterCall a packet after what is written. Refuses with 1, 51, 55, 56, 52, 53 and 54.
+// Writes a packet after what is written. Refuses with 1, 51, 55, 56, 52, 53 and 54.
 #[no_mangle]
 pub extern "C" fn amv_write_packet(
     writer: &mut [u64; 9],
@@ -259,7 +259,7 @@ pub extern "C" fn amv_write_packet(
     }
 }
 
-// WriterCall the trailer, and the run length into the prelude: the last call of a writer. Refuses with 1, 51, 55, 56 and 54.
+// Writes the trailer, and the run length into the prelude: the last call of a writer. Refuses with 1, 51, 55, 56 and 54.
 #[no_mangle]
 pub extern "C" fn amv_write_trailer(
     writer: &mut [u64; 9],
