@@ -5,7 +5,7 @@ use borrow.Author.Tests.{eqb-false}
 use lib.Dec.{eqb}
 use Rattle.error.specs.Refusal.{refusalOf}
 use Rattle.error.specs.declared.AmvError.{AmvError}
-use Rattle.error.specs.declared.AmvError.the-variants.{FileTooLong, Cut, WrongTag, WrongSize, ZeroFps, WrongMicros, WrongFlag, NonzeroReserved}
+use Rattle.error.specs.declared.AmvError.the-variants.{FileTooLong, PreludeCut, WrongTag, WrongSize, ZeroFps, WrongMicros, WrongFlag, NonzeroReserved}
 use Rattle.error.specs.declared.AmvError.the-variants.{NonzeroByte, WrongFormat, WrongChannels, WrongAverage, WrongAlign, WrongBits}
 use Rattle.error.specs.declared.AmvError.the-variants.{WrongCbSize, PreambleTooShort, NoSamples, WaveFormatTooShort, HeaderTooShort}
 use Rattle.error.specs.declared.AmvError.the-variants.{ChunkHeaderTooShort, UnknownTag, StateOutOfRange, TableTooShort, TableRagged}
@@ -15,7 +15,7 @@ use Rattle.error.specs.declared.AmvError.the-variants.{AudioAtEvenPositi
 
 no-zero : (e : AmvError) → eqb (refusalOf e .number) 0 ≡ false
 no-zero FileTooLong = refl
-no-zero (Cut place) = refl
+no-zero (PreludeCut place) = refl
 no-zero (WrongTag place) = refl
 no-zero (WrongSize place) = refl
 no-zero ZeroFps = refl

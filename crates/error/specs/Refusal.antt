@@ -2,7 +2,7 @@
 use Rattle.error.specs.Answer.{Answer, accepted, refused, numbered}
 use Rattle.error.specs.declared.Refusal.{Refusal}
 use Rattle.error.specs.declared.AmvError.{AmvError}
-use Rattle.error.specs.declared.AmvError.the-variants.{FileTooLong, Cut, WrongTag, WrongSize, ZeroFps, WrongMicros, WrongFlag, NonzeroReserved}
+use Rattle.error.specs.declared.AmvError.the-variants.{FileTooLong, PreludeCut, WrongTag, WrongSize, ZeroFps, WrongMicros, WrongFlag, NonzeroReserved}
 use Rattle.error.specs.declared.AmvError.the-variants.{NonzeroByte, WrongFormat, WrongChannels, WrongAverage, WrongAlign, WrongBits}
 use Rattle.error.specs.declared.AmvError.the-variants.{WrongCbSize, PreambleTooShort, NoSamples, WaveFormatTooShort, HeaderTooShort}
 use Rattle.error.specs.declared.AmvError.the-variants.{ChunkHeaderTooShort, UnknownTag, StateOutOfRange, TableTooShort, TableRagged}
@@ -15,7 +15,7 @@ use Rattle.error.specs.declared.AmvResult.the-variants.{Ok, Err}
 -- in the order of 01's numbers
 abbrev pub refusalOf : AmvError → Refusal
 refusalOf FileTooLong = numbered 10 0
-refusalOf (Cut place) = numbered 11 place
+refusalOf (PreludeCut place) = numbered 11 place
 refusalOf (WrongTag place) = numbered 12 place
 refusalOf (WrongSize place) = numbered 13 place
 refusalOf ZeroFps = numbered 14 72

@@ -12,7 +12,7 @@ pub struct Refusal {
 // Why a call refuses: a case for each question, carrying its place where 01 does not fix it. `refusal` gives each case's number.
 pub enum AmvError {
     FileTooLong,
-    Cut(u64),
+    PreludeCut(u64),
     WrongTag(u64),
     WrongSize(u64),
     ZeroFps,
@@ -68,7 +68,7 @@ impl AmvError {
                 number: 10,
                 place: 0,
             },
-            AmvError::Cut(place) => Refusal { number: 11, place },
+            AmvError::PreludeCut(place) => Refusal { number: 11, place },
             AmvError::WrongTag(place) => Refusal { number: 12, place },
             AmvError::WrongSize(place) => Refusal { number: 13, place },
             AmvError::ZeroFps => Refusal {

@@ -61,7 +61,7 @@ fn require_word(file: &[u8], place: usize, expected: u32, wrong: AmvError) -> Am
             AmvResult::Err(wrong)
         }
     } else {
-        AmvResult::Err(AmvError::Cut(place as u64))
+        AmvResult::Err(AmvError::PreludeCut(place as u64))
     }
 }
 
@@ -72,7 +72,7 @@ fn require_body(file: &[u8], place: usize, len: usize) -> AmvResult
     if reaches(file, place, len) {
         AmvResult::Ok
     } else {
-        AmvResult::Err(AmvError::Cut(place as u64))
+        AmvResult::Err(AmvError::PreludeCut(place as u64))
     }
 }
 
