@@ -27,7 +27,7 @@ use Rattle.seek.specs.Seek.{seekOf}
 use Rattle.muxer.specs.Writer.{headerCall, packetCall, trailerCall}
 use Rattle.muxer.specs.declared.Writer.{Writer}
 use Rattle.finished.specs.Check.{checkOf}
-use Rattle.cases.specs.Cases.{position}
+use Rattle.cases.specs.Cases.{position, firstRecord, secondRecord}
 use Rattle.cases.specs.Example.{E}
 
 abbrev pub no : {A : Type 0} → ℕ → ℕ → Answer A
@@ -130,6 +130,9 @@ pub record Numbers : Type 0 where
   -- "Tag `00dc` or `01wb`? 31": a read's place is the cursor, of index, summary and check the chunk
   pub thirty-one-read : reads (then (zeroed 8)) fresh ≡ read.refused (numbered 31 316)
   pub thirty-one-index : indexOf (then (zeroed 8)) ≡ no 31 316
+  -- E with eight zeros where its trailer stood: its first 345 bytes have an index (chunk_index/Damaged)
+  pub thirty-one-later : indexOf (take 345 E ++ zeroed 8) ≡ no 31 345
+  pub thirty-one-before : indexOf (take 345 (take 345 E ++ zeroed 8)) ≡ accepted (firstRecord ∷ secondRecord ∷ [])
   pub thirty-one-summary : summaryOf (then (zeroed 8)) ≡ no 31 316
   pub thirty-one-check : checkOf (then (zeroed 8)) ≡ no 31 316
   -- "Cursor and three counters each from 0 to 2^62? 32"

@@ -5,3 +5,4 @@ pub mod Summing
 pub mod Writing
 pub mod Building
 pub mod Sentences
+pub mod Damaged

@@ -45,6 +45,11 @@ video-there file at size e = head-there file at (λ x. impossible cc)
 pub audio-there : (file : List ℕ) (at size : ℕ) → headAt file at ≡ head.Audio size → at + 8 ≤ length file
 audio-there file at size e = head-there file at (λ x. impossible cc)
 
+-- and of a tag that is none of the two
+pub unknown-there : (file : List ℕ) (at : ℕ) → stepAt file at ≡ step.UnknownTag → at + 8 ≤ length file
+unfolding stepAt
+unknown-there file at e = head-there file at (λ x. let s : onHead file at head.Short ≡ step.UnknownTag = sym (ap (onHead file at) x) ∙ e in impossible cc)
+
 -- past the file's end nothing stands
 pub step-out : (file : List ℕ) (at : ℕ) → length file < at + 8 → stepAt file at ≡ step.RanOut
 unfolding stepAt
