@@ -34,7 +34,7 @@ pub fn movi_interleave_balanced(walker: Walker) -> bool
     video_frames_emitted(walker) == audio_blocks_emitted(walker)
 }
 
-// Whether a read has found that the file ends before its trailer.
+// Whether a read has found that the file is cut: that it ends before its trailer, at a chunk or inside one.
 pub fn is_truncated(walker: Walker) -> bool
     ensures { λ r. ⌜ r ≡ walker .cut ⌝ }
 {

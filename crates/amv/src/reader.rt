@@ -76,7 +76,7 @@ impl<'a> AmvDemuxer<'a> {
         crate::progress::movi_interleave_balanced(self.walker)
     }
 
-    // Whether a read has found that the file ends before its trailer.
+    // Whether a read has found that the file is cut: that it ends before its trailer, at a chunk or inside one.
     pub fn is_truncated(&self) -> bool
         ensures { λ r. ⌜ r ≡ now (self .entry) .walker .cut ⌝ }
     {

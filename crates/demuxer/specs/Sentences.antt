@@ -98,8 +98,8 @@ pub record ReadSentences : Type 0 where
   -- "duration is the u32 at payload 4, or 0 under 8 bytes"
   pub count : (state rest : List ℕ) (n : ℕ) → length state ≡ 4 → n ≤ u32Max → countOf (state ++ (leBytes 4 n ++ rest)) ≡ n
   pub no-count : (payload : List ℕ) → length payload < 8 → countOf payload ≡ 0
-  -- of every file and walker: only a read of a chunk that the file ends inside sets cut; End moves no position; a refusal gives the walker
-  -- back; the numbers are 10, 32 and 31
+  -- of every file and walker: only a read at which the file ends before its trailer, at a chunk or inside one, sets cut; End moves no position;
+  -- a refusal gives the walker back; the numbers are 10, 32 and 31
   pub only-short-sets-cut : (file : List ℕ) (w : Walker) → w .cut ≡ false → readOf file w .walker .cut ≡ true
       → length file < w .position .cursor + 8 + le 4 file (w .position .cursor + 4)
   pub end-moves-nothing : (file : List ℕ) (w : Walker) → readOf file w .answer ≡ End → readOf file w .walker .position ≡ w .position

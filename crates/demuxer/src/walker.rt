@@ -20,7 +20,8 @@ pub enum Trailer {
     NotMet,
 }
 
-// The state of reading, which every read returns anew: where it stands, whether it has ended, whether the file was cut, and the trailer.
+// The state of reading, which every read returns anew: where it stands, whether it has ended, whether the file is cut (it ends before its
+// trailer, at a chunk or inside one), and the trailer.
 pub struct Walker {
     pub position: Position,
     pub end: bool,
@@ -57,7 +58,7 @@ impl Walker {
         }
     }
 
-    // Ended inside a chunk.
+    // Ended before the trailer, at a chunk or inside one: the file is cut.
     fn cut_off(mut self) -> Walker
         ensures { λ r. ⌜ r ≡ cutOff self ⌝ }
     {
