@@ -6,7 +6,7 @@ mod sides;
 use std::hint::black_box;
 use std::time::Instant;
 
-use plain::{PRELUDE, calls};
+use plain::{PRELUDE, RECORD, calls};
 use sides::{CALLS, LIBRARY, Side, WORDS};
 
 /// The payload of the small frames.
@@ -76,7 +76,7 @@ fn races(runs: usize) {
     let frames = recording(BYTES, false);
     let paired = recording(BYTES, true);
     let count = chunks(&frames);
-    let mut table = vec![0; 24 * count];
+    let mut table = vec![0; RECORD * count];
     race("index, 60 KiB of 16-byte frames", runs, count, |side| {
         (side.index)(&frames, &mut table)
     });
@@ -115,16 +115,19 @@ fn races(runs: usize) {
     }
 }
 
-/// The library alone, on files of 1 MiB to 1 GiB.
-fn growth() {
+/// The library alone, on files of 1 MiB up to the largest.
+fn growth(largest: usize) {
     println!(
         "{:>8} {:>10} {:>16} {:>16}",
         "MiB", "chunks", "drain, ns/chunk", "index, ns/chunk"
     );
     for mib in [1, 4, 16, 64, 256, 1024] {
+        if mib > largest {
+            break;
+        }
         let file = recording(mib << 20, true);
         let count = chunks(&file);
-        let mut table = vec![1; 24 * count];
+        let mut table = vec![1; RECORD * count];
         let runs = if mib > 64 { 5 } else { 21 };
         let mut times = [Vec::new(), Vec::new()];
         for _ in 0..runs {
@@ -137,10 +140,14 @@ fn growth() {
 }
 
 fn main() {
-    let runs = std::env::args()
-        .nth(1)
-        .map_or(3001, |word| word.parse().expect("RUNS is a number"));
+    let words: Vec<usize> = std::env::args()
+        .skip(1)
+        .map(|word| word.parse().expect("RUNS and MIB are numbers"))
+        .collect();
+    let [runs, largest] = words[..] else {
+        panic!("usage: bench RUNS MIB");
+    };
     assert!(runs > 0, "RUNS is at least 1");
     races(runs);
-    growth();
+    growth(largest);
 }

@@ -1,6 +1,8 @@
 //! What is timed, on three sides: the library, the plain program with the library's interface, and the plain program with Rust's types.
 
-use plain::{PRELUDE, Walker, Writer, calls, words};
+use amv::sys as c;
+use plain::words::{self, WalkerWords, WriterWords};
+use plain::{PRELUDE, RECORD, Settings, Walker, Writer, calls};
 
 /// Each run gives a number that depends on its answers, so that the sides can be compared.
 pub struct Side {
@@ -11,16 +13,11 @@ pub struct Side {
     pub write: fn(&mut [u8], usize, &[u8]) -> u64,
 }
 
-// The library's calls are declared once, in the Rust binding; four of them are not timed.
-#[allow(dead_code)]
-#[path = "../../bindings/rust/src/sys.rs"]
-mod c;
-
 /// So many seeks in a run, to frames spread over the table.
 pub const SEEKS: i64 = 64;
 
-const FRESH: [u64; 7] = [PRELUDE as u64, 0, 0, 0, 0, 0, u64::MAX];
-const FRESH_WRITER: [u64; 9] = [160, 120, 12, 22_050, 1, 0, 0, 0, 0];
+const FRESH: WalkerWords = [PRELUDE as u64, 0, 0, 0, 0, 0, u64::MAX];
+const FRESH_WRITER: WriterWords = [160, 120, 12, 22_050, 1, 0, 0, 0, 0];
 
 /// The two sides that have the C interface differ in the functions alone.
 macro_rules! side_of_words {
@@ -45,7 +42,7 @@ macro_rules! side_of_words {
             },
             seeks: |table| {
                 let (mut walker, mut out) = (FRESH, [0; 2]);
-                let last = (table.len() / 24) as i64;
+                let last = (table.len() / RECORD) as i64;
                 let mut sum = 0;
                 for i in 0..SEEKS {
                     let request = last * i / SEEKS;
@@ -87,7 +84,6 @@ pub const LIBRARY: Side = side_of_words!(
     c::amv_write_trailer
 );
 
-#[allow(unused_unsafe)]
 pub const WORDS: Side = side_of_words!(
     words::next_packet,
     words::build_chunk_index,
@@ -101,7 +97,7 @@ pub const WORDS: Side = side_of_words!(
 pub const CALLS: Side = Side {
     index: |file, table| calls::build_chunk_index(file, table).unwrap(),
     drain: |file| {
-        let mut walker = Walker::new();
+        let mut walker = Walker::fresh();
         let mut sum = 0;
         while let Ok(Some(packet)) = calls::next_packet(file, &mut walker) {
             sum += packet.stream as u64
@@ -112,8 +108,8 @@ pub const CALLS: Side = Side {
         sum
     },
     seeks: |table| {
-        let mut walker = Walker::new();
-        let last = (table.len() / 24) as i64;
+        let mut walker = Walker::fresh();
+        let last = (table.len() / RECORD) as i64;
         let mut sum = 0;
         for i in 0..SEEKS {
             let request = last * i / SEEKS;
@@ -138,16 +134,13 @@ pub const CALLS: Side = Side {
     },
 };
 
+/// The writer of `FRESH_WRITER`.
 pub fn fresh_writer() -> Writer {
-    Writer {
+    Writer::fresh(Settings {
         width: 160,
         height: 120,
         fps: 12,
         rate: 22_050,
         channels: 1,
-        begun: false,
-        ended: false,
-        written: 0,
-        frames: 0,
-    }
+    })
 }

@@ -1,11 +1,14 @@
 //! One comparison of one call: the plain implementation, the library, and the original under the rules.
 
+use plain::words::{WalkerWords, WriterWords, walker_of, writer_of};
+use plain::{Record, Refusal, Walker};
+
+use crate::grammar;
+use crate::interface::{LIBRARY, PLAIN};
 use crate::original::{self, Told};
-use crate::plain::{self, Refusal, Walker};
 use crate::rules::{self, Expected};
+use crate::said::{Said, Write, accepted, refused};
 use crate::tally::{Tally, hex};
-use crate::words::{self, Said, WalkerWords, Write, WriterWords, accepted, refused};
-use crate::{library, tally};
 
 /// Whether the original agrees with what is expected of it. The rule that was needed is entered. Where the original cannot be
 /// asked there is no answer on either side.
@@ -21,8 +24,8 @@ fn original_agrees<T: PartialEq>(
 }
 
 pub fn from_frame_count(tally: &mut Tally, frames: u64, fps: u32) {
-    let plain = words::from_frame_count(frames, fps);
-    let library = library::from_frame_count(frames, fps);
+    let plain = PLAIN.run_length(frames, fps);
+    let library = LIBRARY.run_length(frames, fps);
     let original = original::from_frame_count(frames, fps);
     let same = plain == library && plain == original;
     tally.judge("from_frame_count", same, || {
@@ -31,8 +34,8 @@ pub fn from_frame_count(tally: &mut Tally, frames: u64, fps: u32) {
 }
 
 pub fn validate_movi_interleave(tally: &mut Tally, tags: &[u32]) {
-    let plain = words::validate_movi_interleave(tags);
-    let library = library::validate_movi_interleave(tags);
+    let plain = PLAIN.validate_movi_interleave(tags);
+    let library = LIBRARY.validate_movi_interleave(tags);
     let original = original::validate_movi_interleave(tags);
     let same = plain == library && original == Told::Said(plain);
     tally.judge("validate_movi_interleave", same, || {
@@ -43,8 +46,8 @@ pub fn validate_movi_interleave(tally: &mut Tally, tags: &[u32]) {
 /// Both parses.
 pub fn parse(tally: &mut Tally, file: &[u8]) {
     for strict in [false, true] {
-        let plain = words::parse(file, strict);
-        let library = library::parse(file, strict);
+        let plain = PLAIN.parse(file, strict);
+        let library = LIBRARY.parse(file, strict);
         let original = original::parse(file, strict);
         let expected = rules::parse(plain);
         let same = (plain == library) & original_agrees(tally, &expected, &Some(original));
@@ -66,16 +69,11 @@ pub fn next_packet(
     walker: &mut WalkerWords,
 ) -> Said<7> {
     let given = *walker;
-    let plain = words::next_packet(file, walker);
+    let plain = PLAIN.next_packet(file, walker);
     let mut library_walker = given;
-    let library = library::next_packet(file, &mut library_walker);
-    let expected = rules::next_packet(
-        file,
-        words::walker_of(&given),
-        plain,
-        words::walker_of(walker),
-    );
-    let told = words::walker_of(&given).map(|mut state| {
+    let library = LIBRARY.next_packet(file, &mut library_walker);
+    let expected = rules::next_packet(file, walker_of(&given).ok(), plain, walker_of(walker).ok());
+    let told = walker_of(&given).ok().map(|mut state| {
         let told = original.next_packet(&mut state);
         (told, state)
     });
@@ -129,11 +127,11 @@ pub fn build_chunk_index(
 ) {
     let given = vec![0xc3; table_len];
     let mut table = given.clone();
-    let plain = words::build_chunk_index(file, &mut table);
+    let plain = PLAIN.build_chunk_index(file, &mut table);
     let mut lent = Guarded::new(&given);
-    let library = library::build_chunk_index(file, lent.lent());
+    let library = LIBRARY.build_chunk_index(file, lent.lent());
     let library_same = plain == library && lent.holds(&table);
-    let original_same = index_agrees(tally, plain, original.records(), file);
+    let original_same = index_agrees(tally, plain, &table, original.records(), file);
     tally.judge("build_chunk_index", library_same && original_same, || {
         format!(
             "table of {table_len} on {}: plain {plain:?} {}, library {library:?} {}, original agrees {original_same}",
@@ -144,18 +142,56 @@ pub fn build_chunk_index(
     });
 }
 
-/// The original has the records of the walk or its refusal; a table that is too short is no concern of it.
+/// A file whose index is refused with 31 at p: its first p bytes have one, with a record for each packet that reads of the whole file
+/// give before they come to p.
+pub fn before_unknown_tag(tally: &mut Tally, file: &[u8]) {
+    let refusal = LIBRARY.build_chunk_index(file, &mut []);
+    if refusal.number != 31 {
+        return;
+    }
+    let before = &file[..refusal.out[0] as usize];
+    let mut walker = Walker::fresh();
+    let mut expected = Vec::new();
+    loop {
+        let position = walker;
+        let Ok(Some(packet)) = plain::next_packet(file, &mut walker) else {
+            break;
+        };
+        let record = plain::Record {
+            tag: plain::stream_tag(packet.stream),
+            offset: position.cursor as u32,
+            frames: position.frames as u32,
+            blocks: position.blocks as u32,
+            samples: position.samples,
+        };
+        expected.extend(record.bytes());
+    }
+    let mut table = vec![0; expected.len()];
+    let said = LIBRARY.build_chunk_index(before, &mut table);
+    let count = (expected.len() / plain::RECORD) as u64;
+    let same = said == accepted(&[count]) && table == expected;
+    tally.judge("the index before an unknown tag", same, || {
+        format!("{}: {said:?} {}", hex(before), hex(&table))
+    });
+}
+
+/// The original has the records of the walk, which the table then begins with, or its refusal; a table that is too short is no concern
+/// of it.
 fn index_agrees(
     tally: &mut Tally,
     plain: Said<2>,
-    original: Result<Vec<plain::Record>, Told<2>>,
+    table: &[u8],
+    original: Result<Vec<Record>, Told<2>>,
     file: &[u8],
 ) -> bool {
     if plain.number == 40 {
         tally.met(rules::TABLE_ROOM);
     }
     match plain::records(file) {
-        Ok(records) => original == Ok(records),
+        Ok(records) => {
+            let bytes: Vec<u8> = records.iter().flat_map(Record::bytes).collect();
+            original == Ok(records) && (plain.number == 40 || table.starts_with(&bytes))
+        }
         Err(Refusal { number, place }) => {
             original == Err(Told::Said(refused(number, place))) && plain == refused(number, place)
         }
@@ -170,21 +206,21 @@ pub fn seek_to_via_index(
     request: i64,
 ) {
     let given = *walker;
-    let plain = words::seek_to_via_index(table, walker, stream, request);
+    let plain = PLAIN.seek_to_via_index(table, walker, stream, request);
     let mut library_walker = given;
-    let library = library::seek_to_via_index(table, &mut library_walker, stream, request);
+    let library = LIBRARY.seek_to_via_index(table, &mut library_walker, stream, request);
     let expected = rules::seek_to_via_index(
         table,
-        words::walker_of(&given),
+        walker_of(&given).ok(),
         stream,
         request,
         plain,
-        words::walker_of(walker),
+        walker_of(walker).ok(),
     );
     let told = expected
         .answer
         .as_ref()
-        .and(words::walker_of(&given))
+        .and(walker_of(&given).ok())
         .map(|state| told_seek(table, state, stream, request));
     let left_same = library_walker == *walker;
     let same = (plain == library) & left_same & original_agrees(tally, &expected, &told);
@@ -201,7 +237,7 @@ pub fn seek_to(tally: &mut Tally, table: &[u8], given: Walker, stream: u32, requ
     let private = told_seek(table, given, stream, request);
     let expected = rules::seek_to(stream, request, given, private);
     let mut state = given;
-    let told = original::seek_to(&plain::read_table(table), &mut state, stream, request);
+    let told = original::seek_to(&original::read_table(table), &mut state, stream, request);
     let told = Some((told, state));
     let same = original_agrees(tally, &expected, &told);
     tally.judge("seek_to (original)", same, || {
@@ -223,15 +259,15 @@ pub fn open(tally: &mut Tally, settings: &plain::Settings) {
 }
 
 fn told_seek(table: &[u8], mut state: Walker, stream: u32, request: i64) -> (Told<2>, Walker) {
-    let records = plain::read_table(table);
+    let records = original::read_table(table);
     let told = original::seek_to_via_index(&records, &mut state, stream, request);
     (told, state)
 }
 
 /// The summary. The original has none: its records are counted.
 pub fn summary(tally: &mut Tally, original: &mut original::File, file: &[u8]) {
-    let plain = words::summary(file);
-    let library = library::summary(file);
+    let plain = PLAIN.summary(file);
+    let library = LIBRARY.summary(file);
     let counted = match original.records() {
         Err(Told::Said(said)) => refused(said.number, said.out[0]),
         Err(_) => refused(u32::MAX, 0),
@@ -251,9 +287,9 @@ pub fn summary(tally: &mut Tally, original: &mut original::File, file: &[u8]) {
 
 /// The check, which the original lacks: it accepts what the grammar recognises, and its totals are the drain's.
 pub fn check(tally: &mut Tally, file: &[u8]) -> bool {
-    let plain = words::check(file);
-    let library = library::check(file);
-    let finished = plain::finished(file);
+    let plain = PLAIN.check(file);
+    let library = LIBRARY.check(file);
+    let finished = grammar::finished(file);
     let by_grammar = finished.as_deref().map(|chunks| drain_totals(file, chunks));
     let grammar_same = by_grammar == (plain.number == 0).then_some(plain);
     let same = plain == library && grammar_same;
@@ -266,9 +302,9 @@ pub fn check(tally: &mut Tally, file: &[u8]) -> bool {
     finished.is_some()
 }
 
-fn drain_totals(file: &[u8], chunks: &[plain::Chunk]) -> Said<6> {
+fn drain_totals(file: &[u8], chunks: &[grammar::Chunk]) -> Said<6> {
     let tags: Vec<u32> = chunks.iter().map(|chunk| chunk.tag).collect();
-    let packets = plain::drain(file, chunks);
+    let packets = grammar::drain(file, chunks);
     let of = |stream| packets.iter().filter(move |(p, _)| p.stream == stream);
     accepted(&[
         of(0).count() as u64,
@@ -284,21 +320,21 @@ pub fn write(tally: &mut Tally, writer: &mut WriterWords, buf: &mut [u8], call: 
     let given = *writer;
     let mut lent = Guarded::new(buf);
     let mut original_buf = buf.to_vec();
-    let expected = match words::writer_of(&given) {
-        None => Expected {
+    let expected = match writer_of(&given) {
+        Err(_) => Expected {
             rule: Some(rules::STATE_WORDS),
             answer: None,
         },
-        Some(state) => rules::write(&state, buf, call),
+        Ok(state) => rules::write(&state, buf, call),
     };
-    let plain = words::write(writer, buf, call);
+    let plain = PLAIN.write(writer, buf, call);
     let mut library_writer = given;
-    let library = library::write(&mut library_writer, lent.lent(), call);
+    let library = LIBRARY.write(&mut library_writer, lent.lent(), call);
     let library_same = plain == library && library_writer == *writer && lent.holds(buf);
     let told = expected
         .answer
         .as_ref()
-        .and(words::writer_of(&given))
+        .and(writer_of(&given).ok())
         .map(|state| original::write(&state, &mut original_buf, call))
         .map(|wrote| (wrote, original_buf));
     let same = library_same & original_agrees(tally, &expected, &told);
@@ -311,8 +347,8 @@ pub fn write(tally: &mut Tally, writer: &mut WriterWords, buf: &mut [u8], call: 
         format!(
             "{call:?} on {given:?}, buffer of {}: plain {plain:?} {writer:?} {}, library {library:?} {library_writer:?} {}, original {:?} {}",
             buf.len(),
-            tally::hex(buf),
-            tally::hex(lent.lent()),
+            hex(buf),
+            hex(lent.lent()),
             told.as_ref().map(|(wrote, _)| wrote),
             told.as_ref().map_or(String::new(), |(_, bytes)| hex(bytes)),
         )

@@ -1,6 +1,7 @@
 //! Recordings: good ones, damaged ones, and all short ones over an alphabet of telling words.
 
-use crate::plain::{self, AUDIO, PRELUDE, Settings, TRAILER, VIDEO};
+use plain::{AUDIO, PRELUDE, Settings, TRAILER, VIDEO};
+
 use crate::random::Random;
 
 pub const EXAMPLE_SETTINGS: Settings = Settings {

@@ -1,12 +1,13 @@
 //! Files, payloads and buffers at the file limit. Their pages are zero until written, so they take little memory.
 
-use crate::plain::{self, FILE_LIMIT, PRELUDE, TRAILER, VIDEO, Walker, Writer};
-use crate::rules;
-use crate::tally::Tally;
-use crate::words::{self, Said, Write, accepted, refused};
-use crate::{files, library, original};
+use plain::words::{WalkerWords, walker_words, writer_words};
+use plain::{FILE_LIMIT as LIMIT, PRELUDE, TRAILER, VIDEO, Walker, Writer};
 
-const LIMIT: usize = FILE_LIMIT as usize;
+use crate::interface::{LIBRARY, PLAIN};
+use crate::rules;
+use crate::said::{Said, Write, accepted, refused};
+use crate::tally::Tally;
+use crate::{files, original};
 
 /// A recording of exactly the limit: one frame that fills it. A byte more stands after it.
 fn full_recording() -> Vec<u8> {
@@ -59,27 +60,27 @@ fn within(tally: &mut Tally, file: &[u8]) {
         tally,
         "check",
         totals,
-        words::check(file),
-        library::check(file),
+        PLAIN.check(file),
+        LIBRARY.check(file),
     );
     let counts = accepted(&[1, 0]);
     judge(
         tally,
         "summary",
         counts,
-        words::summary(file),
-        library::summary(file),
+        PLAIN.summary(file),
+        LIBRARY.summary(file),
     );
     let packet = accepted(&[1, 0, 324, (LIMIT - PRELUDE - 16) as u64, 0, 1]);
     let left = [trailer, 1, 0, 0, 0, 0, u64::MAX];
     read(tally, file, (packet, left));
 }
 
-fn read(tally: &mut Tally, file: &[u8], expected: (Said<7>, words::WalkerWords)) {
-    let mut walker = words::walker_words(&Walker::fresh());
+fn read(tally: &mut Tally, file: &[u8], expected: (Said<7>, WalkerWords)) {
+    let mut walker = walker_words(&Walker::fresh());
     let mut library_walker = walker;
-    let plain = words::next_packet(file, &mut walker);
-    let library = library::next_packet(file, &mut library_walker);
+    let plain = PLAIN.next_packet(file, &mut walker);
+    let library = LIBRARY.next_packet(file, &mut library_walker);
     let library = (library, library_walker);
     judge(tally, "next_packet", expected, (plain, walker), library);
 }
@@ -90,21 +91,21 @@ fn beyond(tally: &mut Tally, file: &[u8]) {
         tally,
         "check",
         refused(10, 0),
-        words::check(file),
-        library::check(file),
+        PLAIN.check(file),
+        LIBRARY.check(file),
     );
     judge(
         tally,
         "summary",
         refused(10, 0),
-        words::summary(file),
-        library::summary(file),
+        PLAIN.summary(file),
+        LIBRARY.summary(file),
     );
-    let fresh = words::walker_words(&Walker::fresh());
+    let fresh = walker_words(&Walker::fresh());
     read(tally, file, (refused(10, 0), fresh));
     let (mut table, mut library_table) = ([0xc3; 24], [0xc3; 24]);
-    let plain = words::build_chunk_index(file, &mut table);
-    let library = library::build_chunk_index(file, &mut library_table);
+    let plain = PLAIN.build_chunk_index(file, &mut table);
+    let library = LIBRARY.build_chunk_index(file, &mut library_table);
     let library = (library, library_table);
     let expected = (refused(10, 0), [0xc3; 24]);
     judge(
@@ -115,10 +116,10 @@ fn beyond(tally: &mut Tally, file: &[u8]) {
         library,
     );
     for strict in [false, true] {
-        let (plain, library) = (words::parse(file, strict), library::parse(file, strict));
+        let (plain, library) = (PLAIN.parse(file, strict), LIBRARY.parse(file, strict));
         judge(tally, "parse", refused(10, 0), plain, library);
         let told = original::parse(file, strict);
-        let unlimited = original::Told::Said(words::parse(&file[..LIMIT], strict));
+        let unlimited = original::Told::Said(PLAIN.parse(&file[..LIMIT], strict));
         tally.equal("parse", unlimited, told, || "a file past the limit".into());
         tally.met(rules::FILE_LIMIT);
     }
@@ -129,13 +130,13 @@ fn long_payload(tally: &mut Tally, payload: &[u8]) {
     let mut writer = Writer::fresh(files::EXAMPLE_SETTINGS);
     let mut buf = [0xc3; 400];
     writer.write_header(&mut buf).unwrap();
-    let given = words::writer_words(&writer);
+    let given = writer_words(&writer);
     let (mut plain_writer, mut library_writer) = (given, given);
     let mut library_buf = buf;
     let expected = (refused(52, 316), given, buf);
     let call = Write::Packet(payload, 0);
-    let plain = words::write(&mut plain_writer, &mut buf, call);
-    let library = library::write(&mut library_writer, &mut library_buf, call);
+    let plain = PLAIN.write(&mut plain_writer, &mut buf, call);
+    let library = LIBRARY.write(&mut library_writer, &mut library_buf, call);
     let library = (library, library_writer, library_buf);
     judge(
         tally,
@@ -169,15 +170,15 @@ fn tail(buf: &[u8]) -> Vec<u8> {
 }
 
 fn write_at_limit(tally: &mut Tally, given: &Writer, buf: &mut Vec<u8>, call: Write) {
-    let words = words::writer_words(given);
+    let words = writer_words(given);
     let fill = |buf: &mut [u8]| buf[LIMIT - 20..].fill(0xc3);
     fill(buf);
     let mut writer = words;
-    let said = words::write(&mut writer, buf, call);
+    let said = PLAIN.write(&mut writer, buf, call);
     let plain = (said, writer, tail(buf));
     fill(buf);
     let mut writer = words;
-    let said = library::write(&mut writer, buf, call);
+    let said = LIBRARY.write(&mut writer, buf, call);
     let library = (said, writer, tail(buf));
     let same = library == plain;
     tally.judge("writes at the limit", same, || {

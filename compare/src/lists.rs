@@ -1,13 +1,16 @@
 //! Whole lists of calls: reads and seeks on a finished recording against the plain machine, and writing calls from a fresh state.
 
+use plain::words::{self, WalkerWords};
+use plain::{Answer, Packet, Walker, Writer, ask};
+
 use crate::calls;
 use crate::files;
-use crate::library;
+use crate::grammar;
+use crate::interface::{Interface, LIBRARY, PLAIN};
 use crate::original::{self, Told};
-use crate::plain::{self, Machine, Packet, Read, Walker, Writer};
 use crate::random::Random;
+use crate::said::{Said, Write, accepted, refused, said_read};
 use crate::tally::{Tally, hex};
-use crate::words::{self, Said, WalkerWords, Write, accepted, refused};
 
 #[derive(Clone, Copy, Debug)]
 enum Call {
@@ -35,6 +38,30 @@ fn near_a_stamp(random: &mut Random, packets: &[(Packet, [u64; 4])]) -> i64 {
     packet.stamp as i64 + random.below(3) as i64 - 1
 }
 
+/// The plain machine: a position among the chunks; their number is the end.
+struct Machine<'a> {
+    packets: &'a [(Packet, [u64; 4])],
+    position: usize,
+}
+
+impl Machine<'_> {
+    fn read(&mut self) -> Option<Packet> {
+        let (packet, _) = self.packets.get(self.position)?;
+        self.position += 1;
+        Some(*packet)
+    }
+
+    /// The stamp of the chunk that the seek goes to, none at the end.
+    fn seek(&mut self, stream: u32, request: i64) -> Answer<Option<u64>> {
+        ask(stream <= 1, 42, 0)?;
+        let found = self.packets.iter().position(|(packet, _)| {
+            packet.stream == stream && packet.stamp as i128 >= request as i128
+        });
+        self.position = found.unwrap_or(self.packets.len());
+        Ok(found.map(|i| self.packets[i].0.stamp))
+    }
+}
+
 /// One of those that run the list, each with a walker of its own.
 trait Side {
     fn read(&mut self) -> Said<7>;
@@ -43,40 +70,36 @@ trait Side {
     fn position(&self) -> [u64; 4];
 }
 
-struct PlainSide<'a> {
-    file: &'a [u8],
-    index: &'a [u8],
-    walker: WalkerWords,
-}
-
-impl Side for PlainSide<'_> {
-    fn read(&mut self) -> Said<7> {
-        words::next_packet(self.file, &mut self.walker)
-    }
-
-    fn seek(&mut self, stream: u32, request: i64) -> Said<2> {
-        words::seek_to_via_index(self.index, &mut self.walker, stream, request)
-    }
-
-    fn position(&self) -> [u64; 4] {
-        self.walker[..4].try_into().unwrap()
-    }
-}
-
-/// The library with the index that the library built.
-struct LibrarySide<'a> {
+/// The library or the plain implementation, each with the index that it built.
+struct WordsSide<'a> {
+    interface: Interface,
     file: &'a [u8],
     index: Vec<u8>,
     walker: WalkerWords,
 }
 
-impl Side for LibrarySide<'_> {
+impl<'a> WordsSide<'a> {
+    fn new(interface: Interface, file: &'a [u8], records: usize) -> Self {
+        let mut index = vec![0; plain::RECORD * records];
+        interface.build_chunk_index(file, &mut index);
+        Self {
+            interface,
+            file,
+            index,
+            walker: words::walker_words(&Walker::fresh()),
+        }
+    }
+}
+
+impl Side for WordsSide<'_> {
     fn read(&mut self) -> Said<7> {
-        library::next_packet(self.file, &mut self.walker)
+        self.interface.next_packet(self.file, &mut self.walker)
     }
 
     fn seek(&mut self, stream: u32, request: i64) -> Said<2> {
-        library::seek_to_via_index(&self.index, &mut self.walker, stream, request)
+        let (index, walker) = (&self.index, &mut self.walker);
+        self.interface
+            .seek_to_via_index(index, walker, stream, request)
     }
 
     fn position(&self) -> [u64; 4] {
@@ -115,53 +138,25 @@ impl Side for OriginalSide<'_> {
 
 /// Runs a list of reads and seeks on a finished recording, on each side.
 pub fn reads_and_seeks(tally: &mut Tally, random: &mut Random, file: &[u8]) {
-    let chunks = plain::finished(file).expect("a finished recording");
-    let packets = plain::drain(file, &chunks);
+    let chunks = grammar::finished(file).expect("a finished recording");
+    let packets = grammar::drain(file, &chunks);
     let list = calls_for(random, &packets);
     let records = plain::records(file).unwrap();
-    let index: Vec<u8> = records.iter().flat_map(plain::Record::bytes).collect();
-    let fresh = words::walker_words(&Walker::fresh());
-    let mut plain_side = PlainSide {
-        file,
-        index: &index,
-        walker: fresh,
-    };
-    run(
-        tally,
-        "list on plain",
-        file,
-        &packets,
-        &list,
-        &mut plain_side,
-    );
-    let mut original_side = OriginalSide {
+    let mut original = OriginalSide {
         file: original::File::new(file),
         records: &records,
         walker: Walker::fresh(),
     };
-    run(
-        tally,
-        "list on original",
-        file,
-        &packets,
-        &list,
-        &mut original_side,
-    );
-    let mut built = vec![0; index.len()];
-    library::build_chunk_index(file, &mut built);
-    let mut library_side = LibrarySide {
-        file,
-        index: built,
-        walker: fresh,
-    };
-    run(
-        tally,
-        "list on library",
-        file,
-        &packets,
-        &list,
-        &mut library_side,
-    );
+    let mut plain = WordsSide::new(PLAIN, file, records.len());
+    let mut library = WordsSide::new(LIBRARY, file, records.len());
+    let sides: [(_, &mut dyn Side); 3] = [
+        ("list on plain", &mut plain),
+        ("list on original", &mut original),
+        ("list on library", &mut library),
+    ];
+    for (name, side) in sides {
+        run(tally, name, file, &packets, &list, side);
+    }
 }
 
 /// The list on one side against the plain machine: each answer, and what is left after the list.
@@ -193,7 +188,7 @@ fn run(
 
 fn step(machine: &mut Machine, side: &mut dyn Side, call: Call) -> bool {
     match call {
-        Call::Read => side.read() == accepted(&words::read_words(machine.read())),
+        Call::Read => side.read() == said_read(Ok(machine.read())),
         Call::Seek(stream, request) => {
             let said = side.seek(stream, request);
             match machine.seek(stream, request) {
@@ -210,10 +205,10 @@ fn step(machine: &mut Machine, side: &mut dyn Side, call: Call) -> bool {
 fn left_same(machine: &mut Machine, side: &mut dyn Side) -> bool {
     loop {
         let read = machine.read();
-        if side.read() != accepted(&words::read_words(read)) {
+        if side.read() != said_read(Ok(read)) {
             return false;
         }
-        if read == Read::End {
+        if read.is_none() {
             return true;
         }
     }
@@ -290,8 +285,8 @@ fn kinds(random: &mut Random) -> Vec<Kind> {
 }
 
 fn holds(file: &[u8], taken: &[(u32, Vec<u8>)]) -> bool {
-    let chunks = plain::finished(file).unwrap();
-    let packets = plain::drain(file, &chunks);
+    let chunks = grammar::finished(file).unwrap();
+    let packets = grammar::drain(file, &chunks);
     packets.len() == taken.len()
         && packets
             .iter()

@@ -7,26 +7,24 @@
 //! made in all; some rounds run even where COUNT is reached before. Each difference from the original is one of the rules, which stand in
 //! docs/DIFFERENCES.md, or it fails. The second form stores answers for the program `vectors`.
 
-// The declarations of the binding: one text, which a test holds against the header and the source.
-#[path = "../../bindings/rust/src/sys.rs"]
-mod c;
 mod calls;
 mod files;
+mod grammar;
+mod interface;
 mod large;
 mod lent;
-mod library;
+mod listing;
 mod lists;
 mod original;
 mod pieces;
-mod plain;
 mod programs;
 mod random;
 mod rules;
+mod said;
 mod suites;
 mod tally;
 mod texts;
 mod vectors;
-mod words;
 
 use std::process::ExitCode;
 use std::time::Instant;
@@ -98,12 +96,12 @@ fn rules_stand(tally: &mut tally::Tally) {
     }
 }
 
-/// A panic of the original is an answer, and not to be printed; one of our own still ends the run with its message.
+/// A panic of the original is an answer, and not to be printed; any other, of our own, still ends the run with its message.
 fn quiet_panics() {
     let usual = std::panic::take_hook();
     std::panic::set_hook(Box::new(move |info| {
-        let ours = |at: &std::panic::Location| at.file().starts_with("src/");
-        if info.location().is_some_and(ours) {
+        let of_the_original = |at: &std::panic::Location| at.file() == ::original::SOURCE;
+        if !info.location().is_some_and(of_the_original) {
             usual(info);
         }
     }));

@@ -13,10 +13,11 @@ use oxideav_core::{
     CodecId, CodecParameters, Demuxer, Error, Muxer, Packet, Rational, StreamInfo, TimeBase,
 };
 
+use plain::{Record, Settings, Walker, Writer};
+
 use crate::lent::{Lent, Shared};
-use crate::plain::{Record, Settings, Walker, Writer};
+use crate::said::{Said, Write, accepted, refused};
 use crate::texts::{UNKNOWN_TEXT, number_of, writer_number};
-use crate::words::{Said, Write, accepted, refused};
 
 /// An answer of the original.
 #[derive(Clone, Copy, Debug, PartialEq, Eq)]
@@ -245,6 +246,12 @@ fn entry_of(record: &Record) -> ChunkIndexEntry {
         record.samples as i64,
         record.blocks as u64,
     )
+}
+
+/// The records of a table.
+pub fn read_table(table: &[u8]) -> Vec<Record> {
+    let (records, _) = table.as_chunks();
+    records.iter().map(Record::read).collect()
 }
 
 /// The private seek over the records.

@@ -1,55 +1,48 @@
-//! The pieces that the C interface does not have: the plain implementation against the original alone.
+//! The pieces that the C interface does not have, single bodies (docs/FORMAT.md, 10) and the builder of preludes: a second implementation
+//! against the original alone.
+
+use plain::words::{header_words, wave_words};
+use plain::{Answer, Header, Wave, ask, u32_at};
 
 use crate::original::{self, Told};
-use crate::plain::{self, Answer, Refusal};
 use crate::random::Random;
+use crate::said::said;
 use crate::tally::{Tally, hex};
-use crate::words::{accepted, refused};
+
+fn parse_header(body: &[u8]) -> Answer<Header> {
+    ask(body.len() >= 56, 28, 0)?;
+    Ok(Header::read(body))
+}
+
+fn parse_wave(body: &[u8]) -> Answer<Wave> {
+    ask(body.len() >= 18, 27, 0)?;
+    let mut wave = Wave::read(body);
+    if body.len() < 20 {
+        wave.cb_size = 0;
+    }
+    Ok(wave)
+}
+
+/// Tag and length.
+fn parse_chunk_header(bytes: &[u8]) -> Answer<[u64; 2]> {
+    ask(bytes.len() >= 8, 29, 0)?;
+    Ok([u32_at(bytes, 0), u32_at(bytes, 4)].map(u64::from))
+}
+
+/// State and count, and whether the count is above 0.
+pub fn parse_preamble(body: &[u8]) -> Answer<(u32, u32, Answer<()>)> {
+    ask(body.len() >= 8, 25, 0)?;
+    let count = u32_at(body, 4);
+    Ok((u32_at(body, 0), count, ask(count > 0, 26, 0)))
+}
+
+fn preamble_words((state, count, above): (u32, u32, Answer<()>)) -> [u64; 3] {
+    let number = above.map_or_else(|refusal| refusal.number, |()| 0);
+    [state, count, number].map(u64::from)
+}
 
 fn told<const N: usize, const M: usize>(answer: Answer<[u64; M]>) -> Told<N> {
-    Told::Said(match answer {
-        Ok(values) => accepted(&values),
-        Err(Refusal { number, place }) => refused(number, place),
-    })
-}
-
-fn header(body: &[u8]) -> Told<8> {
-    told(plain::parse_header(body).map(|header| {
-        [
-            header.micros as u64,
-            header.width as u64,
-            header.height as u64,
-            header.fps as u64,
-            header.flag as u64,
-            header.reserved as u64,
-            header.duration as u64,
-        ]
-    }))
-}
-
-fn wave(body: &[u8]) -> Told<8> {
-    told(plain::parse_wave(body).map(|wave| {
-        [
-            wave.format as u64,
-            wave.channels as u64,
-            wave.rate as u64,
-            wave.average as u64,
-            wave.align as u64,
-            wave.bits as u64,
-            wave.cb_size as u64,
-        ]
-    }))
-}
-
-fn chunk_header(bytes: &[u8]) -> Told<3> {
-    told(plain::parse_chunk_header(bytes).map(|(tag, length)| [tag as u64, length as u64]))
-}
-
-fn preamble(body: &[u8]) -> Told<4> {
-    told(plain::parse_preamble(body).map(|(state, count, above)| {
-        let number = above.map_or_else(|refusal| refusal.number as u64, |()| 0);
-        [state as u64, count as u64, number]
-    }))
+    Told::Said(said(answer))
 }
 
 /// Every length up to 60, with bytes of all kinds.
@@ -60,21 +53,15 @@ pub fn bodies(tally: &mut Tally, random: &mut Random) {
             body.iter_mut().skip(4).take(4).for_each(|byte| *byte = 0);
         }
         let input = || hex(&body);
-        tally.equal(
-            "AmvHeader::parse",
-            header(&body),
-            original::header(&body),
-            input,
-        );
-        tally.equal(
-            "AmvWaveFormat::parse",
-            wave(&body),
-            original::wave(&body),
-            input,
-        );
-        let (ours, theirs) = (chunk_header(&body), original::chunk_header(&body));
+        let ours = told(parse_header(&body).map(header_words));
+        tally.equal("AmvHeader::parse", ours, original::header(&body), input);
+        let ours = told(parse_wave(&body).map(wave_words));
+        tally.equal("AmvWaveFormat::parse", ours, original::wave(&body), input);
+        let ours = told(parse_chunk_header(&body));
+        let theirs = original::chunk_header(&body);
         tally.equal("ChunkHeader::parse", ours, theirs, input);
-        let (ours, theirs) = (preamble(&body), original::preamble(&body));
+        let ours = told(parse_preamble(&body).map(preamble_words));
+        let theirs = original::preamble(&body);
         tally.equal("AmvAudioPreamble::parse", ours, theirs, input);
     }
 }

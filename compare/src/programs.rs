@@ -5,12 +5,14 @@ use std::io::Write as _;
 use std::path::{Path, PathBuf};
 use std::process::{Command, Stdio};
 
+use plain::{Settings, Walker, Writer, words};
+
 use crate::calls;
 use crate::files;
-use crate::plain::{self, Read, Settings, Walker, Writer};
+use crate::listing;
 use crate::random::Random;
+use crate::said::Write;
 use crate::tally::{Tally, hex};
-use crate::words::{self, Write};
 
 const ROOT: &str = concat!(env!("CARGO_MANIFEST_DIR"), "/..");
 
@@ -26,11 +28,7 @@ pub fn listing(tally: &mut Tally, random: &mut Random) {
         inputs.push(files::example()[..cut].to_vec());
     }
     inputs.push([&files::example()[..], b"x"].concat());
-    for length in [
-        plain::LISTING_LIMIT - 1,
-        plain::LISTING_LIMIT,
-        plain::LISTING_LIMIT + 1,
-    ] {
+    for length in [listing::LIMIT - 1, listing::LIMIT, listing::LIMIT + 1] {
         inputs.push(recording_of(length));
     }
     for _ in 0..20 {
@@ -43,7 +41,7 @@ pub fn listing(tally: &mut Tally, random: &mut Random) {
 }
 
 fn list_one(tally: &mut Tally, program: &Path, input: &[u8]) {
-    let expected = plain::listing(input);
+    let expected = listing::of(input);
     let got = output_of(Command::new(program), input);
     tally.equal("listing", expected, got, || hex(input));
 }
@@ -177,7 +175,7 @@ fn expected_check(fps: u32, packets: &[plain::Packet]) -> Option<(u32, u64)> {
 fn packets_of(file: &[u8]) -> Vec<plain::Packet> {
     let mut walker = Walker::fresh();
     let mut packets = Vec::new();
-    while let Ok(Read::Packet(packet)) = plain::next_packet(file, &mut walker) {
+    while let Ok(Some(packet)) = plain::next_packet(file, &mut walker) {
         packets.push(packet);
     }
     packets

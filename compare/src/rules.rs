@@ -1,9 +1,11 @@
 //! The known differences. Each rule has the name of its row in docs/DIFFERENCES.md, says when it applies, and says what the original
 //! then answers instead: a difference that the rule does not predict exactly fails.
 
+use plain::{Settings, Walker, Writer};
+
+use crate::files::push_chunk;
 use crate::original::{NEGATIVE, Told, Wrote};
-use crate::plain::{self, Refusal, Settings, Walker, Writer};
-use crate::words::{Said, Write, accepted, read_words, refused};
+use crate::said::{Said, Write, accepted, said_read};
 
 pub const CUT_SIZE: &str = "a tag that is there, its size cut";
 pub const FILE_LIMIT: &str = "length of a file";
@@ -91,10 +93,7 @@ pub fn next_packet(
     if plain.number != 32 {
         return Expected::same((Told::Said(plain), left));
     }
-    let said = match plain::read_on(file, &mut walker) {
-        Ok(read) => accepted(&read_words(read)),
-        Err(Refusal { number, place }) => refused(number, place),
-    };
+    let said = said_read(plain::read_on(file, &mut walker));
     Expected::by(WALKER_RANGE, (Told::Said(said), walker))
 }
 
@@ -117,7 +116,7 @@ pub fn seek_to_via_index(
         32 => WALKER_RANGE,
         _ => return Expected::same((Told::Said(plain), left)),
     };
-    let stamp = plain::jump(&plain::read_table(table), &mut walker, stream, request);
+    let stamp = plain::jump(table.as_chunks().0, &mut walker, stream, request);
     Expected::by(rule, (Told::Said(accepted(&[stamp])), walker))
 }
 
@@ -151,7 +150,7 @@ pub fn open(settings: &Settings) -> Expected<bool> {
 pub fn write(given: &Writer, buf: &[u8], call: Write) -> Expected<(Wrote, Vec<u8>)> {
     let mut writer = *given;
     let mut bytes = buf.to_vec();
-    let answer = crate::words::write_plain(&mut writer, &mut bytes, call);
+    let answer = call.on(&mut writer, &mut bytes);
     let number = answer.map_or_else(|refusal| refusal.number, |()| 0);
     let wrote = Wrote {
         number,
@@ -182,10 +181,11 @@ pub fn write(given: &Writer, buf: &[u8], call: Write) -> Expected<(Wrote, Vec<u8
 fn failed_write(given: &Writer, buf: &[u8], call: Write) -> (Wrote, Vec<u8>) {
     let (at, text) = match call {
         Write::Header => (0, plain::build_prelude_bytes(given.settings, 0).to_vec()),
-        Write::Packet(payload, stream) => (
-            given.written,
-            [&plain::packet_head(payload, stream), payload].concat(),
-        ),
+        Write::Packet(payload, stream) => {
+            let mut chunk = Vec::new();
+            push_chunk(&mut chunk, plain::stream_tag(stream), payload);
+            (given.written, chunk)
+        }
         Write::Trailer => (given.written, plain::TRAILER.to_vec()),
     };
     let mut bytes = buf.to_vec();

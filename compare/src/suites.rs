@@ -1,14 +1,16 @@
 //! What is fed to the comparisons: short inputs in full, then rounds of random ones.
 
+use plain::words::{self, WalkerWords, WriterWords};
+use plain::{AUDIO, RECORD, Record, VIDEO, Walker, Writer};
+
 use crate::calls::{self, Guarded};
 use crate::files;
 use crate::lists;
 use crate::original;
 use crate::pieces;
-use crate::plain::{self, AUDIO, RECORD, Record, VIDEO, Walker, Writer};
 use crate::random::Random;
+use crate::said::Write;
 use crate::tally::Tally;
-use crate::words::{self, WalkerWords, Write, WriterWords};
 
 /// Everything that reads a file: both parses, the check, the summary, the index, and reads until the end.
 pub fn whole_file(tally: &mut Tally, bytes: &[u8], table_slack: usize) {
@@ -27,6 +29,7 @@ pub fn movi(tally: &mut Tally, file: &[u8], table_slack: usize) {
     let exact = RECORD * count;
     let table_len = (exact + table_slack).saturating_sub(RECORD);
     calls::build_chunk_index(tally, &mut original, file, table_len);
+    calls::before_unknown_tag(tally, file);
     let mut walker = words::walker_words(&Walker::fresh());
     for _ in 0..count + 2 {
         let said = calls::next_packet(tally, &mut original, file, &mut walker);
@@ -240,7 +243,7 @@ fn tables(tally: &mut Tally, random: &mut Random) {
             _ => random.below(24) as i64 - 2,
         };
         calls::seek_to_via_index(tally, table, &mut walker, stream, request);
-        if let Some(walker) = words::walker_of(&walker) {
+        if let Ok(walker) = words::walker_of(&walker) {
             calls::seek_to(tally, table, walker, stream, request);
         }
     }
@@ -281,7 +284,7 @@ fn writers(tally: &mut Tally, random: &mut Random) {
     let mut buf = random.bytes(room);
     for _ in 0..3 {
         let given = random_writer(random, room);
-        if let Some(writer) = words::writer_of(&given) {
+        if let Ok(writer) = words::writer_of(&given) {
             calls::open(tally, &writer.settings);
         }
         let payload = files::payload(random);

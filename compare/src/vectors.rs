@@ -7,11 +7,14 @@ use std::fmt::Write as _;
 use std::fs;
 use std::path::Path;
 
+use plain::words::{self, WalkerWords, WriterWords};
+use plain::{AUDIO, Settings, VIDEO, Walker, Writer};
+
 use crate::files::{self, EXAMPLE_SETTINGS};
+use crate::interface::PLAIN;
 use crate::original::{self, Told};
-use crate::plain::{self, AUDIO, Settings, VIDEO, Walker, Writer};
 use crate::rules;
-use crate::words::{self, Said, WalkerWords, Write, WriterWords};
+use crate::said::{Said, Write};
 
 /// The numbers of the functions in a case's first byte, with their names: the program has the same.
 const PARSE: (u8, &str) = (1, "parse");
@@ -114,7 +117,7 @@ fn answer<const N: usize>(told: Told<N>, plain: Said<N>) -> Option<Said<N>> {
 }
 
 fn parse(cases: &mut Cases, file: &[u8], strict: bool) {
-    let plain = words::parse(file, strict);
+    let plain = PLAIN.parse(file, strict);
     let Some(said) = answer(original::parse(file, strict), plain) else {
         cases.left_out += 1;
         return;
@@ -133,7 +136,7 @@ fn parse(cases: &mut Cases, file: &[u8], strict: bool) {
 fn next_packet(cases: &mut Cases, file: &[u8], walker: &mut WalkerWords) -> bool {
     let given = *walker;
     let mut after = given;
-    let plain = words::next_packet(file, &mut after);
+    let plain = PLAIN.next_packet(file, &mut after);
     if plain.number == 32 || plain.number == 1 {
         cases.left_out += 1;
         return false;
@@ -200,13 +203,14 @@ fn seek_to_via_index(
     request: i64,
 ) {
     let mut after = given;
-    let plain = words::seek_to_via_index(table, &mut after, stream, request);
+    let plain = PLAIN.seek_to_via_index(table, &mut after, stream, request);
     if plain.number != 0 {
         cases.left_out += 1;
         return;
     }
     let mut state = words::walker_of(&given).unwrap();
-    let told = original::seek_to_via_index(&plain::read_table(table), &mut state, stream, request);
+    let told =
+        original::seek_to_via_index(&original::read_table(table), &mut state, stream, request);
     let said = answer(told, plain).expect("a seek of stream 0 or 1 does not panic");
     let [request, mark] = request_words(request);
     let call = Call {
@@ -268,7 +272,7 @@ fn write(cases: &mut Cases, given: WriterWords, buf: &[u8], call: Write) {
 }
 
 fn validate_movi_interleave(cases: &mut Cases, tags: &[u32]) {
-    let plain = words::validate_movi_interleave(tags);
+    let plain = PLAIN.validate_movi_interleave(tags);
     let said = answer(original::validate_movi_interleave(tags), plain).unwrap();
     let bytes: Vec<u8> = tags.iter().flat_map(|tag| tag.to_le_bytes()).collect();
     let call = Call {

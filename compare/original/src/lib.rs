@@ -5,6 +5,9 @@
 
 include!(concat!(env!("OUT_DIR"), "/modules.rs"));
 
+/// The file that they are compiled from: a panic of theirs names it.
+pub const SOURCE: &str = concat!(env!("OUT_DIR"), "/modules.rs");
+
 pub use demuxer::AmvDemuxerError;
 pub use parse::DurationConsistency;
 

@@ -1,13 +1,16 @@
 //! Answers that the original does not have. Each is written out here from 01's text, those with number 1 from the header of the C
 //! interface; the plain implementation must answer the same before a case is stored, so that two readings of 01 meet.
 
+use plain::words::{WalkerWords, WriterWords};
+use plain::{AUDIO, VIDEO};
+
 use super::{
     BUILD_CHUNK_INDEX, CHECK, Call, Cases, LISTING, NEXT_PACKET, PARSE, SEEK_TO_VIA_INDEX, SUMMARY,
     request_words, written_parts,
 };
-use crate::files;
-use crate::plain::{self, AUDIO, VIDEO};
-use crate::words::{self, Said, WalkerWords, Write, WriterWords, accepted, refused};
+use crate::interface::PLAIN;
+use crate::said::{Said, Write, accepted, refused};
+use crate::{files, listing};
 
 /// 2^62, and a number past it.
 const MOST: u64 = 4_611_686_018_427_387_904;
@@ -30,7 +33,7 @@ fn call_of<'a>(function: (u8, &'static str), bytes: &'a [u8]) -> Call<'a> {
 }
 
 fn parse_strict(cases: &mut Cases, file: &[u8], stated: Said<16>) {
-    assert_eq!(words::parse(file, true), stated);
+    assert_eq!(PLAIN.parse(file, true), stated);
     let call = Call {
         parameters: [1, 0, 0],
         ..call_of(PARSE, file)
@@ -39,19 +42,19 @@ fn parse_strict(cases: &mut Cases, file: &[u8], stated: Said<16>) {
 }
 
 fn summary(cases: &mut Cases, file: &[u8], stated: Said<3>) {
-    assert_eq!(words::summary(file), stated);
+    assert_eq!(PLAIN.summary(file), stated);
     let call = call_of(SUMMARY, file);
     cases.add(call, stated.number.into(), &stated.out, &[]);
 }
 
 fn check(cases: &mut Cases, file: &[u8], stated: Said<6>) {
-    assert_eq!(words::check(file), stated);
+    assert_eq!(PLAIN.check(file), stated);
     let call = call_of(CHECK, file);
     cases.add(call, stated.number.into(), &stated.out, &[]);
 }
 
 fn listing(cases: &mut Cases, file: &[u8], text: &str) {
-    assert_eq!(plain::listing(file), text);
+    assert_eq!(listing::of(file), text);
     cases.add(call_of(LISTING, file), 0, &[], text.as_bytes());
 }
 
@@ -64,7 +67,7 @@ fn next_packet(
     after: WalkerWords,
 ) {
     let mut walker = given;
-    let said = words::next_packet(file, &mut walker);
+    let said = PLAIN.next_packet(file, &mut walker);
     assert_eq!((said, walker), (stated, after));
     let call = Call {
         state: &given,
@@ -84,7 +87,7 @@ fn seek_to_via_index(
     after: WalkerWords,
 ) {
     let mut walker = given;
-    let said = words::seek_to_via_index(table, &mut walker, stream, request);
+    let said = PLAIN.seek_to_via_index(table, &mut walker, stream, request);
     assert_eq!((said, walker), (stated, after));
     let [request, mark] = request_words(request);
     let call = Call {
@@ -100,7 +103,7 @@ fn seek_to_via_index(
 fn refused_index(cases: &mut Cases, file: &[u8], room: usize, number: u32, place: u64) {
     let lent = vec![0xc3; room];
     let mut table = lent.clone();
-    let said = words::build_chunk_index(file, &mut table);
+    let said = PLAIN.build_chunk_index(file, &mut table);
     assert_eq!((said, &table), (refused(number, place), &lent));
     let call = Call {
         lent: &lent,
@@ -120,7 +123,7 @@ fn refused_write(
 ) {
     let lent = vec![0xa5; room];
     let (mut writer, mut buf) = (given, lent.clone());
-    let said = words::write(&mut writer, &mut buf, write);
+    let said = PLAIN.write(&mut writer, &mut buf, write);
     assert_eq!(
         (said, writer, &buf),
         (refused(number, place), given, &lent),

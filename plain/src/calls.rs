@@ -1,48 +1,55 @@
-//! The calls with Rust's types.
+//! The calls that are timed, with Rust's types.
 
-use crate::{Packet, Refusal, Totals, Walker, Writer};
+use crate::{Answer, Packet, Totals, Walker, Writer};
 
+/// A read.
 #[inline(never)]
-pub fn next_packet(file: &[u8], walker: &mut Walker) -> Result<Option<Packet>, Refusal> {
+pub fn next_packet(file: &[u8], walker: &mut Walker) -> Answer<Option<Packet>> {
     crate::next_packet(file, walker)
 }
 
+/// The index.
 #[inline(never)]
-pub fn build_chunk_index(file: &[u8], table: &mut [u8]) -> Result<u64, Refusal> {
+pub fn build_chunk_index(file: &[u8], table: &mut [u8]) -> Answer<u64> {
     crate::build_chunk_index(file, table)
 }
 
+/// A jump.
 #[inline(never)]
 pub fn seek_to_via_index(
     table: &[u8],
     walker: &mut Walker,
     stream: u32,
     request: i64,
-) -> Result<u64, Refusal> {
+) -> Answer<u64> {
     crate::seek_to_via_index(table, walker, stream, request)
 }
 
+/// The check.
 #[inline(never)]
-pub fn check(file: &[u8]) -> Result<Totals, Refusal> {
+pub fn check(file: &[u8]) -> Answer<Totals> {
     crate::check(file)
 }
 
+/// The header.
 #[inline(never)]
-pub fn write_header(writer: &mut Writer, buf: &mut [u8]) -> Result<(), Refusal> {
+pub fn write_header(writer: &mut Writer, buf: &mut [u8]) -> Answer<()> {
     writer.write_header(buf)
 }
 
+/// A packet.
 #[inline(never)]
 pub fn write_packet(
     writer: &mut Writer,
     buf: &mut [u8],
     payload: &[u8],
     stream: u32,
-) -> Result<(), Refusal> {
+) -> Answer<()> {
     writer.write_packet(buf, payload, stream)
 }
 
+/// The trailer.
 #[inline(never)]
-pub fn write_trailer(writer: &mut Writer, buf: &mut [u8]) -> Result<(), Refusal> {
+pub fn write_trailer(writer: &mut Writer, buf: &mut [u8]) -> Answer<()> {
     writer.write_trailer(buf)
 }

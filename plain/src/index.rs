@@ -1,0 +1,130 @@
+//! The index and the summary (docs/FORMAT.md, 6).
+
+use crate::head::{count_of, head_at};
+use crate::within_limit;
+use crate::{AUDIO, Answer, COUNT_LIMIT, PRELUDE, RECORD, VIDEO, ask, refuse, u32_at, u64_at};
+
+/// A record of the index: a chunk, and what stands before it.
+#[derive(Clone, Copy, Debug, PartialEq, Eq)]
+pub struct Record {
+    /// The chunk's tag.
+    pub tag: u32,
+    /// The chunk's offset.
+    pub offset: u32,
+    /// The frames before it.
+    pub frames: u32,
+    /// The blocks before it.
+    pub blocks: u32,
+    /// The samples before it.
+    pub samples: u64,
+}
+
+impl Record {
+    /// The record as a table has it.
+    pub fn bytes(&self) -> [u8; RECORD] {
+        let mut bytes = [0; RECORD];
+        bytes[0..4].copy_from_slice(&self.tag.to_le_bytes());
+        bytes[4..8].copy_from_slice(&self.offset.to_le_bytes());
+        bytes[8..12].copy_from_slice(&self.frames.to_le_bytes());
+        bytes[12..16].copy_from_slice(&self.blocks.to_le_bytes());
+        bytes[16..24].copy_from_slice(&self.samples.to_le_bytes());
+        bytes
+    }
+
+    /// The record that a table has there.
+    pub fn read(bytes: &[u8; RECORD]) -> Self {
+        Self {
+            tag: u32_at(bytes, 0),
+            offset: u32_at(bytes, 4),
+            frames: u32_at(bytes, 8),
+            blocks: u32_at(bytes, 12),
+            samples: u64_at(bytes, 16),
+        }
+    }
+
+    /// Whether a jump takes it: a known tag, and fewer than 2^62 samples.
+    pub(crate) fn is_good(&self) -> bool {
+        (self.tag == VIDEO || self.tag == AUDIO) && self.samples < COUNT_LIMIT
+    }
+
+    /// The stamp of a record of the stream.
+    pub(crate) fn stamp(&self, stream: u32) -> u64 {
+        if stream == 0 {
+            self.frames as u64
+        } else {
+            self.samples
+        }
+    }
+}
+
+/// The walk of the index, from 316: calls `each` with the record of every chunk that has one. Refuses with 31.
+#[inline(always)]
+fn walk(file: &[u8], mut each: impl FnMut(Record)) -> Answer<()> {
+    let mut at = PRELUDE;
+    let (mut frames, mut blocks, mut samples) = (0, 0, 0);
+    while let Some((head, rest)) = head_at(file, at) {
+        if head.is_trailer() {
+            break;
+        }
+        let (tag, length) = (head.tag(), head.length());
+        let count = match tag {
+            VIDEO => 0,
+            AUDIO => match rest.get(..length.min(8)) {
+                Some(preamble) => count_of(preamble),
+                None => break,
+            },
+            _ => return refuse(31, at as u64),
+        };
+        each(Record {
+            tag,
+            offset: at as u32,
+            frames,
+            blocks,
+            samples,
+        });
+        if tag == VIDEO {
+            frames += 1;
+        } else {
+            blocks += 1;
+            samples += count;
+        }
+        at += 8 + length;
+    }
+    Ok(())
+}
+
+/// The records of a file as a list; the length of the file is not asked about.
+pub fn records(file: &[u8]) -> Answer<Vec<Record>> {
+    let mut records = Vec::new();
+    walk(file, |record| records.push(record))?;
+    Ok(records)
+}
+
+/// Writes the records of a file into a table, and gives their number. Refuses with 10, 31 and 40.
+#[inline]
+pub fn build_chunk_index(file: &[u8], table: &mut [u8]) -> Answer<u64> {
+    within_limit(file)?;
+    // A refusal must leave the table as it is, so the records are counted first.
+    let mut count = 0;
+    walk(file, |_| count += 1)?;
+    let (room, _) = table.as_chunks_mut();
+    ask(room.len() >= count, 40, 0)?;
+    let mut room = room.iter_mut();
+    walk(file, |record| {
+        if let Some(bytes) = room.next() {
+            *bytes = record.bytes();
+        }
+    })?;
+    Ok(count as u64)
+}
+
+/// How many frames and blocks the index has. Refuses with 10 and 31.
+pub fn summary(file: &[u8]) -> Answer<(u64, u64)> {
+    within_limit(file)?;
+    let (mut frames, mut blocks) = (0, 0);
+    walk(file, |record| match record.tag {
+        VIDEO => frames += 1,
+        _ => blocks += 1,
+    })?;
+    Ok((frames, blocks))
+}
