@@ -1,8 +1,29 @@
-#!/usr/bin/env bash
-# Times the library against a plain Rust program: ./bench.sh [RUNS]. Needs cargo; no network. docs/SPEED.md says what the columns are.
-runs=${1:-3001}
-cd "$(dirname "$0")" || exit 2
-said=$(rt staticlib capi 2>&1) || { printf '%s\n' "$said" >&2; exit 1; }
-export AMV_LIBRARY=$PWD/target/staticlib CARGO_TARGET_DIR=$PWD/target/bench
-cargo build --quiet --offline --release --manifest-path bench/Cargo.toml || exit 1
-exec target/bench/release/bench "$runs"
+#!/bin/sh
+# Times the library against a plain Rust program.
+root=$(dirname -- "$(readlink -f -- "$0")") me=bench
+. "$root/scripts/common.sh"
+
+usage() {
+    cat <<'END'
+./bench.sh [RUNS | --quick]
+
+Times the library against a plain Rust program, RUNS times each (3001), then shows how drain and index grow with
+the file, to 1 GiB. --quick: 101 runs, and to 16 MiB. docs/SPEED.md says what the columns are. Needs cargo; no
+network.
+END
+}
+
+[ $# -le 1 ] || fail "one word at most, and these are $# (./bench.sh --help)"
+case ${1-3001} in
+-h | --help)
+    usage
+    exit 0
+    ;;
+--quick) runs=101 largest=16 ;;
+'' | *[!0-9]* | 0*) fail "RUNS is a number above 0, and not '$1' (./bench.sh --help)" ;;
+*) runs=${1-3001} largest=1024 ;;
+esac
+
+"$root/build-library.sh" || exit
+build_with_cargo bench || exit
+exec "$root/target/bench/release/bench" "$runs" "$largest"

@@ -1,14 +1,30 @@
 #!/bin/sh
-# Builds the library and the two programs, records, plays, and plays what is left of a recording that was cut.
+# Builds the library and the two programs; records; checks and plays the recording, one that was cut, one that is damaged, and one as
+# another program would write it. Standard output is what expected.txt stores.
 set -eu
-cd "$(dirname "$0")/../.."
-mkdir -p target/c
-rt staticlib capi >target/staticlib.log 2>&1 || { cat target/staticlib.log; exit 1; }
+root=$(dirname -- "$(readlink -f -- "$0")")/../..
+root=$(readlink -f -- "$root") me=example
+. "$root/scripts/common.sh"
+command -v "${CC:-cc}" >/dev/null || fail "needs a C compiler, and there is no ${CC:-cc} on the path"
+"$root/build-library.sh"
+mkdir -p "$root/target/c"
 for program in record panel; do
-    cc -std=c11 -Wall -Wextra -O2 -Iinclude -o target/c/$program examples/c/$program.c target/staticlib/libcapi.a
+    "${CC:-cc}" -std=c11 -Wall -Wextra -O2 -I"$root/include" -o "$root/target/c/$program" "$root/examples/c/$program.c" "$lib_dir/libamv.a"
 done
-cd target/c
+cd "$root/target/c"
+
+# A copy of the recording with the bytes at an offset replaced.
+with_bytes() { # NAME OFFSET BYTES
+    cp vat.amv "$1"
+    printf "$3" | dd of="$1" bs=1 seek="$2" conv=notrunc 2>/dev/null
+}
+
 ./record vat.amv
-./panel vat.amv 12
 head -c 5000 vat.amv >cut.amv
-./panel cut.amv 12
+with_bytes damaged.amv 4686 'XXXX'
+with_bytes other.amv 32 '\206'
+for name in vat cut damaged other; do
+    echo
+    ./panel check $name.amv || echo "(no finished recording)"
+    ./panel play $name.amv 12
+done
