@@ -1,18 +1,18 @@
 /*
- * What a control panel does with a recording: open it, check it, build the index, jump to a picture and play on
- * with the sound that belongs to it.
+ * What a control panel does with a recording.
+ *
+ *   panel play FILE PICTURE   opens it, builds the index, jumps to a picture and plays on with the sound that belongs to it. Any file
+ *                             with the format's layout will do: cut, damaged, or written by another program.
+ *   panel check FILE          says whether it is a finished recording, before it is handed on or graded.
  */
 #include <inttypes.h>
 #include <stdbool.h>
 #include <stdint.h>
 #include <stdio.h>
 #include <stdlib.h>
+#include <string.h>
 
 #include "amv.h"
-
-/* The words of a walker and of an answer, by name. */
-enum { CURSOR, FRAMES, SAMPLES, BLOCKS, END, CUT, TRAILER, WALKER_WORDS };
-enum { PLACE, IS_PACKET, STREAM, OFFSET, LENGTH, STAMP, DURATION, PACKET_WORDS };
 
 /* A file in memory, and its pictures a second for the clock. */
 struct recording {
@@ -21,100 +21,122 @@ struct recording {
     uint64_t fps;
 };
 
-static uint8_t *read_file(const char *name, size_t *len)
+/* The records of its index. */
+struct table {
+    uint8_t *records;
+    size_t len;
+};
+
+/* A refusal as a fitter can look it up, and what it means. */
+static void show_refusal(const char *what, uint32_t number, const uint64_t *out)
+{
+    printf("%s: refused with %" PRIu32 " at %" PRIu64 ". %s No.\n", what, number, out[AMV_PLACE], amv_question(number));
+}
+
+static bool read_file(const char *name, struct recording *r)
 {
     FILE *from = fopen(name, "rb");
-    if (from == NULL || fseek(from, 0, SEEK_END) != 0)
-        return NULL;
-    long size = ftell(from);
-    rewind(from);
-    uint8_t *bytes = size < 0 ? NULL : malloc((size_t)size + 1);
-    if (bytes != NULL && fread(bytes, 1, (size_t)size, from) != (size_t)size) {
-        free(bytes);
-        bytes = NULL;
+    long size = -1;
+    r->file = NULL;
+    if (from != NULL && fseek(from, 0, SEEK_END) == 0)
+        size = ftell(from);
+    if (size >= 0) {
+        rewind(from);
+        r->len = (size_t)size;
+        r->file = malloc(r->len + 1);
     }
-    fclose(from);
-    *len = (size_t)size;
-    return bytes;
+    if (r->file != NULL && fread(r->file, 1, r->len, from) != r->len) {
+        free(r->file);
+        r->file = NULL;
+    }
+    if (r->file == NULL)
+        perror(name);
+    if (from != NULL)
+        fclose(from);
+    return r->file != NULL;
 }
 
-/* The clock of a picture, in hundredths of a second. */
+/* To play a file only its layout is asked for, so not strictly. */
+static bool open_recording(const char *name, struct recording *r)
+{
+    uint64_t out[AMV_PARSE_WORDS];
+    if (!read_file(name, r))
+        return false;
+    uint32_t number = amv_parse(r->file, r->len, false, out);
+    if (number != AMV_OK) {
+        show_refusal(name, number, out);
+        return false;
+    }
+    printf("%s: %" PRIu64 " x %" PRIu64 ", %" PRIu64 " pictures a second, sound at %" PRIu64 " Hz\n", name, out[AMV_PARSE_WIDTH],
+           out[AMV_PARSE_HEIGHT], out[AMV_PARSE_FPS], out[AMV_PARSE_SAMPLES_PER_SEC]);
+    r->fps = out[AMV_PARSE_FPS];
+    return true;
+}
+
+/* Leaves of a damaged file what stands before the damage; that has an index. The summary says how many records there will be. */
+static bool count_records(struct recording *r, uint64_t counts[AMV_SUMMARY_WORDS])
+{
+    uint32_t number = amv_summary(r->file, r->len, counts);
+    if (number == AMV_ERROR_UNKNOWN_TAG) {
+        show_refusal("damaged", number, counts);
+        r->len = (size_t)counts[AMV_PLACE];
+        number = amv_summary(r->file, r->len, counts);
+    }
+    if (number != AMV_OK)
+        show_refusal("summary", number, counts);
+    return number == AMV_OK;
+}
+
+static bool build_index(struct recording *r, struct table *table)
+{
+    uint64_t counts[AMV_SUMMARY_WORDS], out[AMV_INDEX_WORDS];
+    if (!count_records(r, counts))
+        return false;
+    table->len = AMV_ENTRY_LEN * (size_t)(counts[AMV_SUMMARY_FRAMES] + counts[AMV_SUMMARY_BLOCKS]);
+    table->records = malloc(table->len + 1);
+    if (table->records == NULL) {
+        perror("index");
+        return false;
+    }
+    uint32_t number = amv_build_chunk_index(r->file, r->len, table->records, table->len, out);
+    if (number != AMV_OK) {
+        show_refusal("index", number, out);
+        free(table->records);
+    }
+    return number == AMV_OK;
+}
+
+/* The clock of a picture, to hundredths of a second; without a rate there is none. */
 static void show_clock(uint64_t frames, uint64_t fps)
 {
+    if (fps == 0)
+        return;
     uint64_t hundredths = frames * 100 / fps;
-    printf("%" PRIu64 ":%02" PRIu64 ".%02" PRIu64, hundredths / 6000, hundredths / 100 % 60, hundredths % 100);
+    printf(" at %" PRIu64 ":%02" PRIu64 ".%02" PRIu64, hundredths / 6000, hundredths / 100 % 60, hundredths % 100);
 }
 
-static int open_recording(const char *name, struct recording *r)
+static void show_packet(const struct recording *r, const uint64_t packet[AMV_PACKET_WORDS])
 {
-    uint64_t out[16];
-    r->file = read_file(name, &r->len);
-    if (r->file == NULL) {
-        perror(name);
-        return 0;
-    }
-    uint32_t number = amv_parse(r->file, r->len, true, out);
-    if (number != 0) {
-        printf("%s: no AMV recording (%" PRIu32 " at %" PRIu64 ")\n", name, number, out[PLACE]);
-        return 0;
-    }
-    printf("%s: %" PRIu64 " x %" PRIu64 ", %" PRIu64 " pictures a second, sound at %" PRIu64 " Hz\n", name, out[2], out[3],
-           out[4], out[10]);
-    r->fps = out[4];
-    return 1;
-}
-
-static void show_check(const struct recording *r)
-{
-    uint64_t out[6];
-    uint32_t number = amv_check(r->file, r->len, out);
-    if (number == 0)
-        printf("finished: %" PRIu64 " pictures, %" PRIu64 " sound blocks, %" PRIu64 " samples, %s\n", out[1], out[2], out[3],
-               out[5] ? "paired" : "not paired");
-    else if (number == 60)
-        printf("not finished: the recording stops inside the chunk at %" PRIu64 "; what stands before it can be played\n",
-               out[PLACE]);
-    else
-        printf("not finished: refused with %" PRIu32 " at %" PRIu64 "\n", number, out[PLACE]);
-}
-
-/* The index: 24 bytes a chunk. The summary says how many there will be. */
-static uint8_t *build_index(const struct recording *r, size_t *len)
-{
-    uint64_t counts[3], out[2];
-    if (amv_summary(r->file, r->len, counts) != 0)
-        return NULL;
-    *len = (size_t)(24 * (counts[1] + counts[2]));
-    uint8_t *table = malloc(*len + 1);
-    if (table != NULL && amv_build_chunk_index(r->file, r->len, table, *len, out) != 0) {
-        free(table);
-        table = NULL;
-    }
-    return table;
-}
-
-static void show_packet(const struct recording *r, const uint64_t packet[PACKET_WORDS])
-{
-    if (packet[STREAM] == 0) {
-        printf("  picture %" PRIu64 " at ", packet[STAMP]);
-        show_clock(packet[STAMP], r->fps);
+    if (packet[AMV_PACKET_STREAM] == AMV_STREAM_VIDEO) {
+        printf("  picture %" PRIu64, packet[AMV_PACKET_STAMP]);
+        show_clock(packet[AMV_PACKET_STAMP], r->fps);
     } else {
-        printf("  sound from sample %" PRIu64 " on, %" PRIu64 " samples", packet[STAMP], packet[DURATION]);
+        printf("  sound from sample %" PRIu64 " on, %" PRIu64 " samples", packet[AMV_PACKET_STAMP], packet[AMV_PACKET_DURATION]);
     }
-    printf(", %" PRIu64 " bytes at %" PRIu64 "\n", packet[LENGTH], packet[OFFSET]);
+    printf(", %" PRIu64 " bytes at %" PRIu64 "\n", packet[AMV_PACKET_LEN], packet[AMV_PACKET_START]);
 }
 
 /* Plays on from the walker, at most so many packets; answers how many there were. */
-static uint64_t play(const struct recording *r, uint64_t walker[WALKER_WORDS], uint64_t most, bool show)
+static uint64_t play_on(const struct recording *r, uint64_t walker[AMV_WALKER_WORDS], uint64_t most, bool show)
 {
-    uint64_t packet[PACKET_WORDS], played = 0;
+    uint64_t packet[AMV_PACKET_WORDS], played = 0;
     while (played < most) {
         uint32_t number = amv_next_packet(r->file, r->len, walker, packet);
-        if (number != 0) {
-            printf("  refused with %" PRIu32 " at %" PRIu64 "\n", number, packet[PLACE]);
+        if (number != AMV_OK) {
+            show_refusal("read", number, packet);
             break;
         }
-        if (!packet[IS_PACKET])
+        if (!packet[AMV_PACKET_IS_PACKET])
             break;
         if (show)
             show_packet(r, packet);
@@ -124,48 +146,66 @@ static uint64_t play(const struct recording *r, uint64_t walker[WALKER_WORDS], u
 }
 
 /* Jumps to a picture: the sound and the clock come along. */
-static int jump(const uint8_t *table, size_t table_len, uint64_t walker[WALKER_WORDS], uint64_t picture)
+static bool jump(const struct table *table, uint64_t walker[AMV_WALKER_WORDS], int64_t picture)
 {
-    uint64_t out[2];
-    uint32_t number = amv_seek_to_via_index(table, table_len, walker, 0, (int64_t)picture, out);
-    if (number != 0) {
-        printf("jump to picture %" PRIu64 ": refused with %" PRIu32 " at %" PRIu64 "\n", picture, number, out[PLACE]);
-        return 0;
+    uint64_t out[AMV_SEEK_WORDS];
+    uint32_t number = amv_seek_to_via_index(table->records, table->len, walker, AMV_STREAM_VIDEO, picture, out);
+    if (number != AMV_OK) {
+        show_refusal("jump", number, out);
+        return false;
     }
-    if (walker[END]) {
-        printf("jump to picture %" PRIu64 ": the recording ends before it\n", picture);
-        return 0;
+    if (walker[AMV_WALKER_END]) {
+        printf("jump to picture %" PRId64 ": the recording ends before it\n", picture);
+        return true;
     }
-    printf("jump to picture %" PRIu64 ": %" PRIu64 " pictures, %" PRIu64 " samples, %" PRIu64 " blocks before it\n", out[1],
-           walker[FRAMES], walker[SAMPLES], walker[BLOCKS]);
-    return 1;
+    printf("jump to picture %" PRIu64 ": %" PRIu64 " pictures, %" PRIu64 " samples, %" PRIu64 " blocks before it\n",
+           out[AMV_SEEK_STAMP], walker[AMV_WALKER_FRAMES], walker[AMV_WALKER_SAMPLES], walker[AMV_WALKER_BLOCKS]);
+    return true;
+}
+
+static int play(const char *name, int64_t picture)
+{
+    struct recording r;
+    struct table table;
+    uint64_t walker[AMV_WALKER_WORDS] = AMV_FRESH_WALKER;
+    if (!open_recording(name, &r) || !build_index(&r, &table))
+        return 1;
+    bool jumped = jump(&table, walker, picture);
+    if (jumped && !walker[AMV_WALKER_END]) {
+        play_on(&r, walker, 4, true);
+        printf("  and %" PRIu64 " more to the end\n", play_on(&r, walker, UINT64_MAX, false));
+        if (walker[AMV_WALKER_CUT])
+            printf("the recording is cut: it ends before its trailer, at byte %zu\n", r.len);
+    }
+    free(table.records);
+    free(r.file);
+    return jumped ? 0 : 1;
+}
+
+/* What must be finished is asked strictly: every field, every chunk, the trailer, nothing after it. */
+static int check(const char *name)
+{
+    struct recording r;
+    uint64_t out[AMV_CHECK_WORDS];
+    if (!read_file(name, &r))
+        return 1;
+    uint32_t number = amv_check(r.file, r.len, out);
+    if (number == AMV_OK)
+        printf("%s: finished, %" PRIu64 " pictures, %" PRIu64 " sound blocks, %" PRIu64 " samples, %s\n", name,
+               out[AMV_CHECK_FRAMES], out[AMV_CHECK_BLOCKS], out[AMV_CHECK_SAMPLES],
+               out[AMV_CHECK_PAIRED] ? "paired" : "not paired");
+    else
+        show_refusal(name, number, out);
+    free(r.file);
+    return number == AMV_OK ? 0 : 1;
 }
 
 int main(int argc, char **argv)
 {
-    struct recording r;
-    uint64_t walker[WALKER_WORDS] = AMV_FRESH_WALKER;
-    size_t table_len;
-
-    if (argc != 3) {
-        fprintf(stderr, "usage: panel FILE PICTURE\n");
-        return 2;
-    }
-    if (!open_recording(argv[1], &r))
-        return 1;
-    show_check(&r);
-    uint8_t *table = build_index(&r, &table_len);
-    if (table == NULL) {
-        printf("no index\n");
-        return 1;
-    }
-    if (jump(table, table_len, walker, strtoull(argv[2], NULL, 10))) {
-        play(&r, walker, 4, true);
-        printf("  and %" PRIu64 " more to the end\n", play(&r, walker, UINT64_MAX, false));
-        if (walker[CUT])
-            printf("the recording was cut at byte %zu\n", r.len);
-    }
-    free(table);
-    free(r.file);
-    return 0;
+    if (argc == 4 && strcmp(argv[1], "play") == 0)
+        return play(argv[2], strtoll(argv[3], NULL, 10));
+    if (argc == 3 && strcmp(argv[1], "check") == 0)
+        return check(argv[2]);
+    fprintf(stderr, "usage: panel play FILE PICTURE\n       panel check FILE\n");
+    return 2;
 }

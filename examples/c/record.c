@@ -1,4 +1,5 @@
 /* Writes a recording: two seconds of small pictures, each followed by its sound, into the file that is named. */
+#include <inttypes.h>
 #include <stdint.h>
 #include <stdio.h>
 #include <stdlib.h>
@@ -10,8 +11,8 @@ enum { FPS = 12, RATE = 8000, PICTURES = 2 * FPS, SAMPLES = RATE / FPS, ROOM = 6
 /* A call that is refused has written nothing; its number and place say why. */
 static void must(uint32_t number, const uint64_t *out, const char *call)
 {
-    if (number != 0) {
-        fprintf(stderr, "%s: refused with %u at %llu\n", call, number, (unsigned long long)out[0]);
+    if (number != AMV_OK) {
+        fprintf(stderr, "%s: refused with %" PRIu32 " at %" PRIu64 ". %s No.\n", call, number, out[AMV_PLACE], amv_question(number));
         exit(1);
     }
 }
@@ -38,8 +39,8 @@ static size_t sound(uint8_t *to, unsigned samples)
 int main(int argc, char **argv)
 {
     static uint8_t file[ROOM], payload[1024];
-    uint64_t writer[9] = AMV_FRESH_WRITER(64, 48, FPS, RATE, 1);
-    uint64_t out[1];
+    uint64_t writer[AMV_WRITER_WORDS] = AMV_FRESH_WRITER(64, 48, FPS, RATE, 1);
+    uint64_t out[1], totals[AMV_CHECK_WORDS];
 
     if (argc != 2) {
         fprintf(stderr, "usage: record FILE\n");
@@ -48,18 +49,20 @@ int main(int argc, char **argv)
     must(amv_write_header(writer, file, ROOM, out), out, "header");
     for (unsigned n = 0; n < PICTURES; n++) {
         size_t len = picture(payload, n);
-        must(amv_write_packet(writer, file, ROOM, payload, len, 0, out), out, "picture");
+        must(amv_write_packet(writer, file, ROOM, payload, len, AMV_STREAM_VIDEO, out), out, "picture");
         len = sound(payload, SAMPLES);
-        must(amv_write_packet(writer, file, ROOM, payload, len, 1, out), out, "sound");
+        must(amv_write_packet(writer, file, ROOM, payload, len, AMV_STREAM_AUDIO, out), out, "sound");
     }
     must(amv_write_trailer(writer, file, ROOM, out), out, "trailer");
 
-    /* The file is the first `written` bytes of the buffer. */
+    /* The file is the first bytes of the buffer. It must be finished, and the check says so. */
+    size_t len = (size_t)writer[AMV_WRITER_WRITTEN];
+    must(amv_check(file, len, totals), totals, "check");
     FILE *to = fopen(argv[1], "wb");
-    if (to == NULL || fwrite(file, 1, writer[7], to) != writer[7] || fclose(to) != 0) {
+    if (to == NULL || fwrite(file, 1, len, to) != len || fclose(to) != 0) {
         perror(argv[1]);
         return 1;
     }
-    printf("recorded %llu pictures, %llu bytes\n", (unsigned long long)writer[8], (unsigned long long)writer[7]);
+    printf("recorded %" PRIu64 " pictures, %zu bytes\n", totals[AMV_CHECK_FRAMES], len);
     return 0;
 }

@@ -1,11 +1,15 @@
 //! AMV recordings: a safe wrapper of the proved library, with the names of the Rust original.
 //!
-//! Every answer comes from the library, whose contracts are proved; this crate only carries slices and words over.
-//! A refusal is a number and a place, as document 01 fixes them; `include/amv.h` has the table of numbers. Arguments stand in the order
-//! that they have there, with what a method holds left out. A refused call changes nothing.
+//! Every answer comes from the library, whose contracts are proved; this crate only carries slices and words over. docs/FORMAT.md has the
+//! format, every call with its questions, and what is proved of whole lists of calls. A refusal is a number and a place; the constants of
+//! [`AmvError`] name the numbers. Arguments stand in the order that they have in `include/amv.h`, with what a method holds left out. A
+//! refused call changes nothing.
+//!
+//! A file is cut where it ends before its trailer, at a chunk or inside one. What stands before can be read, indexed and jumped to.
 
 use std::fmt;
 
+mod refusals;
 pub mod sys;
 
 /// Why a call was refused: the number of the question, and the place where it was asked.
@@ -13,13 +17,14 @@ pub mod sys;
 pub struct AmvError {
     /// The number of the question that was answered with no.
     pub number: u32,
-    /// A byte offset, or what the table of numbers says.
+    /// A byte offset, or what `place_is` says.
     pub place: u64,
 }
 
 impl fmt::Display for AmvError {
     fn fmt(&self, f: &mut fmt::Formatter<'_>) -> fmt::Result {
-        write!(f, "refused with {} at {}", self.number, self.place)
+        let (number, place, question) = (self.number, self.place, self.question());
+        write!(f, "refused with {number} at {place}. {question} No.")
     }
 }
 
@@ -89,7 +94,7 @@ pub struct AmvPrelude {
 }
 
 impl AmvPrelude {
-    /// The prelude of a file whose layout is right. Refuses with 10 to 13.
+    /// The prelude of a file whose layout is right, which is enough to play it. Refuses with 10 to 13.
     pub fn parse(file: &[u8]) -> Result<AmvPrelude> {
         AmvPrelude::parse_with(file, false)
     }
@@ -167,7 +172,8 @@ impl ChunkIndexEntry {
 }
 
 impl ChunkIndex {
-    /// The index of a file. Refuses with 10 and 31.
+    /// The index of a file. Refuses with 10 and 31. A file that is refused with 31 at p has something other than a chunk there; its first p
+    /// bytes have an index, so go on with `&file[..p]`.
     pub fn build(file: &[u8]) -> Result<ChunkIndex> {
         let counts = summary(file)?;
         let count = (counts.frames + counts.blocks) as usize;
@@ -230,7 +236,7 @@ pub struct AmvDemuxer<'a> {
 }
 
 impl<'a> AmvDemuxer<'a> {
-    /// A reader at the first chunk of a file whose layout is right. Refuses with 10 to 13.
+    /// A reader at the first chunk of a file whose layout is right: what it takes to play a file. Refuses with 10 to 13.
     pub fn open(file: &'a [u8]) -> Result<AmvDemuxer<'a>> {
         AmvPrelude::parse(file).map(|prelude| AmvDemuxer::over(file, prelude))
     }
@@ -358,7 +364,7 @@ impl<'a> AmvDemuxer<'a> {
         self.walker[END] == 1
     }
 
-    /// Whether a read has found that the file ends, at a chunk or inside one, before its trailer.
+    /// Whether the file is cut, as far as reads have found: it ends before its trailer, at a chunk or inside one.
     pub fn is_truncated(&self) -> bool {
         self.walker[CUT] == 1
     }
@@ -493,8 +499,8 @@ pub struct Totals {
     pub paired: bool,
 }
 
-/// The totals of a finished recording: the strict prelude, whole chunks, the trailer, and nothing after it. Refuses with 10 to 24, 60, 61
-/// and 31.
+/// The totals of a finished recording: the strict prelude, whole chunks, the trailer, and nothing after it. To be asked of what must be
+/// finished; a file need not be to be played. Refuses with 10 to 24, 60, 61 and 31; a file that is cut is 11 where its prelude is, else 60.
 pub fn check(file: &[u8]) -> Result<Totals> {
     let mut out = [0; 6];
     let number = unsafe { sys::amv_check(file.as_ptr(), file.len(), &mut out) };
@@ -516,7 +522,7 @@ pub struct ChunkCounts {
     pub blocks: u64,
 }
 
-/// How many pictures and blocks a file has, by its index walk: a file that is cut counts as far as it goes. Refuses with 10 and 31.
+/// How many pictures and blocks a file has, by its index walk: as many as its index has records of each kind. Refuses with 10 and 31.
 pub fn summary(file: &[u8]) -> Result<ChunkCounts> {
     let mut out = [0; 3];
     let number = unsafe { sys::amv_summary(file.as_ptr(), file.len(), &mut out) };

@@ -188,6 +188,45 @@ fn every_damaged_byte_is_told_or_changes_only_what_it_holds() {
 }
 
 #[test]
+fn a_damaged_file_is_played_up_to_the_damage() {
+    let packets = packets();
+    let file = write(&packets);
+    let mut at = 316;
+    for (n, (_, data)) in packets.iter().enumerate() {
+        let mut damaged = file.clone();
+        damaged[at] = b'X';
+        let refused = ChunkIndex::build(&damaged).unwrap_err();
+        assert_eq!(refused.number, AmvError::UNKNOWN_TAG);
+        assert_eq!(refused.place, at as u64);
+        // The first bytes have an index, a record for each chunk before the damage, and are a file that is cut.
+        let before = &damaged[..at];
+        let index = ChunkIndex::build(before).unwrap();
+        assert_eq!(index.entries().count(), n);
+        let whole = ChunkIndex::build(&file).unwrap();
+        assert_eq!(
+            index.records(),
+            &whole.records()[..n * ChunkIndexEntry::LEN]
+        );
+        let mut demuxer = AmvDemuxer::open(before).unwrap();
+        assert_eq!(sent(&drain(&mut demuxer)), packets[..n]);
+        assert!(demuxer.is_truncated());
+        at += 8 + data.len();
+    }
+}
+
+#[test]
+fn a_refusal_says_its_question() {
+    let file = small();
+    let refused = check(&file[..352]).unwrap_err();
+    assert_eq!(refused.number, AmvError::CHUNK_CUT);
+    assert_eq!(
+        refused.to_string(),
+        "refused with 60 at 345. Is the chunk whole: 8 bytes of header and all of its payload? No."
+    );
+    assert_eq!(refused.place_is(), "the chunk's offset");
+}
+
+#[test]
 fn a_refused_call_writes_nothing() {
     let mut buf = vec![0xA5; 330];
     let mut muxer = AmvMuxer::new(SETTINGS, &mut buf);

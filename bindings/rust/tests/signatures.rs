@@ -1,5 +1,6 @@
-//! The header, this binding and the library's source declare the same functions: the same parameters with the same widths, in the same
-//! order. Nothing else would notice: a linker knows only names.
+//! The header, this binding and the library's source say the same: the same functions, with the same parameters of the same widths in the
+//! same order; the same refusals, by name, number, question and place, as docs/FORMAT.md has them; the same version and limits. Nothing else
+//! would notice: a linker knows only names.
 
 use std::collections::BTreeMap;
 use std::fs;
@@ -45,12 +46,56 @@ fn declarations(text: &str, begin: &str) -> Vec<(String, Vec<String>, String)> {
         .collect()
 }
 
-/// `uint32_t amv_check(const uint8_t *file, size_t len, uint64_t out[6]);`
+/// The header without its comments, and without the ends of lines inside a macro.
+fn header() -> String {
+    without(&read("include/amv.h"), "/*", "*/").replace("\\\n", " ")
+}
+
+/// The header's names for numbers: its enumerators, and its macros that are one number.
+fn header_numbers() -> BTreeMap<String, u64> {
+    let text = header();
+    let mut numbers = BTreeMap::new();
+    for list in text.split("enum {").skip(1) {
+        let list = list.split('}').next().expect("an enum ends");
+        let mut next = 0;
+        for name in list.split(',').map(words).filter(|n| !n.contains('(')) {
+            let (name, number) = match name.split_once(" = ") {
+                Some((name, number)) => (name.to_string(), number.parse().expect("a number")),
+                None => (name, next),
+            };
+            next = number + 1;
+            numbers.insert(name, number);
+        }
+    }
+    for line in text.lines().filter_map(|l| l.strip_prefix("#define ")) {
+        if let Some((name, number)) = line.split_once(' ') {
+            let number = number.trim();
+            let number = match number.strip_prefix("0x") {
+                Some(hex) => u64::from_str_radix(hex, 16),
+                None => number.parse(),
+            };
+            if let Ok(number) = number {
+                numbers.insert(name.to_string(), number);
+            }
+        }
+    }
+    numbers
+}
+
+/// `uint32_t amv_check(const uint8_t *file, size_t len, uint64_t out[AMV_CHECK_WORDS]);`
 fn of_header() -> Functions {
-    let text = without(&without(&read("include/amv.h"), "/*", "*/"), "//", "\n");
-    declarations(&text, "uint32_t amv_")
+    let numbers = header_numbers();
+    let by_number = |parameter: &String| match parameter.split_once('[') {
+        None => parameter.clone(),
+        Some((before, len)) => {
+            let len = len.strip_suffix(']').expect("the length of an array");
+            let number = numbers.get(len).map(u64::to_string);
+            format!("{before}[{}]", number.as_deref().unwrap_or(len))
+        }
+    };
+    declarations(&header(), "uint32_t amv_")
         .into_iter()
-        .map(|(name, parameters, _)| (name, parameters))
+        .map(|(name, parameters, _)| (name, parameters.iter().map(by_number).collect()))
         .collect()
 }
 
@@ -137,4 +182,161 @@ fn header_binding_and_source_agree() {
         source,
         "src/sys.rs and crates/capi/src/lib.rt"
     );
+}
+
+/// Number, name, question and place of a refusal.
+type Row = (u32, String, String, String);
+
+/// The rows of a list of `(number, name, "question", "place")`, after a word.
+fn rows_of(text: &str, word: &str, prefix: &str) -> Vec<Row> {
+    let flat = words(text);
+    flat.split(word)
+        .skip(1)
+        .map(|row| {
+            let mut quoted = row.split('"');
+            let (number, name) = quoted
+                .next()
+                .and_then(|before| before.trim().trim_end_matches(',').split_once(", "))
+                .expect("a row has a number and a name");
+            let question = quoted.next().expect("a row has a question");
+            let place = quoted.nth(1).expect("a row has a place");
+            let name = name.trim().strip_prefix(prefix).expect("a name's prefix");
+            let number = number.trim().parse().expect("a row's number");
+            (number, name.into(), question.into(), place.into())
+        })
+        .collect()
+}
+
+fn refusals_of_header() -> Vec<Row> {
+    let text = header();
+    let (_, list) = text
+        .split_once("#define AMV_REFUSALS(ROW)")
+        .expect("the list");
+    let (list, _) = list.split_once("#define").expect("the list ends");
+    rows_of(list, "ROW(", "AMV_ERROR_")
+}
+
+fn refusals_of_binding() -> Vec<Row> {
+    let text = without(&read("bindings/rust/src/refusals.rs"), "//", "\n");
+    let (_, list) = text.split_once("refusals! {").expect("the list");
+    rows_of(list, "(", "")
+}
+
+/// `| 60 | `ChunkCut` | Is the chunk whole ..? | the chunk's offset |`
+fn refusals_of_format() -> Vec<Row> {
+    let text = read("docs/FORMAT.md");
+    text.lines()
+        .filter_map(|line| {
+            let cells: Vec<_> = line.split('|').map(str::trim).collect();
+            let [_, number, name, question, place, _] = cells[..] else {
+                return None;
+            };
+            let number = number.parse().ok()?;
+            let name = upper(name.strip_prefix('`')?.strip_suffix('`')?);
+            Some((number, name, question.into(), place.into()))
+        })
+        .collect()
+}
+
+/// `ChunkCut` as `CHUNK_CUT`.
+fn upper(name: &str) -> String {
+    let mut upper = String::new();
+    for (i, letter) in name.chars().enumerate() {
+        if i > 0 && letter.is_uppercase() {
+            upper.push('_');
+        }
+        upper.push(letter.to_ascii_uppercase());
+    }
+    upper
+}
+
+/// `AmvError::ChunkCut(place) => Refusal { number: 60, place },`: number, name, and the place where it is one number. The number of a
+/// state that is no state is the C interface's own.
+fn refusals_of_source() -> Vec<(u32, String, Option<String>)> {
+    let text = words(&without(&read("crates/error/src/lib.rt"), "//", "\n"));
+    let cases = text.split("AmvError::").filter_map(|case| {
+        let (name, refusal) = case.split_once(" => Refusal { number: ")?;
+        let (number, place) = refusal.split_once(',')?;
+        let place = place.trim().strip_prefix("place: ").unwrap_or("");
+        let place = place.split([',', ' ']).next().expect("a place");
+        let fixed = place.parse::<u64>().is_ok().then(|| place.to_string());
+        let name = name.split('(').next().expect("a name");
+        Some((number.parse().expect("a number"), upper(name), fixed))
+    });
+    let capi = read("crates/capi/src/lib.rt");
+    let illegal = capi
+        .split_once("const ILLEGAL_STATE: u32 = ")
+        .and_then(|(_, rest)| rest.split(';').next())
+        .expect("the number of an illegal state");
+    let illegal = (
+        illegal.parse().expect("a number"),
+        "ILLEGAL_STATE".to_string(),
+        Some("0".to_string()),
+    );
+    std::iter::once(illegal).chain(cases).collect()
+}
+
+#[test]
+fn refusals_agree() {
+    let header = refusals_of_header();
+    assert_eq!(header.len(), 40, "the refusals");
+    assert_eq!(refusals_of_binding(), header, "refusals.rs and amv.h");
+    assert_eq!(refusals_of_format(), header, "docs/FORMAT.md and amv.h");
+    let by_source: Vec<_> = header
+        .into_iter()
+        .map(|(number, name, _, place)| {
+            let fixed = place.parse::<u64>().is_ok().then_some(place);
+            (number, name, fixed)
+        })
+        .collect();
+    assert_eq!(by_source, refusals_of_source(), "amv.h and crates/error");
+}
+
+/// The number of a constant in a text of the source.
+fn source_number(path: &str, constant: &str) -> u64 {
+    let text = read(path);
+    let (_, rest) = text.split_once(constant).expect("the constant");
+    let number = rest.split([';', ' ']).find(|word| !word.is_empty());
+    let number = number.expect("its number").replace('_', "");
+    let hex = number.strip_prefix("0x");
+    hex.map_or_else(|| number.parse(), |hex| u64::from_str_radix(hex, 16))
+        .expect("a number")
+}
+
+#[test]
+fn version_and_limits_agree() {
+    let text = header();
+    let version = text.split("#define AMV_VERSION \"").nth(1);
+    let version = version.and_then(|rest| rest.split('"').next());
+    assert_eq!(version, Some(env!("CARGO_PKG_VERSION")));
+    let numbers = header_numbers();
+    for (name, path, constant) in [
+        (
+            "AMV_FILE_LIMIT",
+            "crates/fields/src/file.rt",
+            "const FILE_LIMIT: u64 =",
+        ),
+        (
+            "AMV_PRELUDE_LEN",
+            "crates/prelude/src/prelude.rt",
+            "const LEN: usize =",
+        ),
+        (
+            "AMV_ENTRY_LEN",
+            "crates/chunk_index/src/entry.rt",
+            "const LEN: usize =",
+        ),
+        (
+            "AMV_VIDEO_CHUNK_TAG",
+            "crates/chunk/src/lib.rt",
+            "const VIDEO_CHUNK_TAG: u32 =",
+        ),
+        (
+            "AMV_AUDIO_CHUNK_TAG",
+            "crates/chunk/src/lib.rt",
+            "const AUDIO_CHUNK_TAG: u32 =",
+        ),
+    ] {
+        assert_eq!(numbers[name], source_number(path, constant), "{name}");
+    }
 }
