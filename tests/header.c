@@ -1,0 +1,220 @@
+/*
+ * Holds the names of include/amv.h against the library: every word of a state and of an out, every field of a record, every limit and
+ * number, on inputs in which each has another value. Both C99 and C++11, so that the header is compiled as both.
+ */
+#include <stdio.h>
+#include <string.h>
+
+#include "amv.h"
+#include "amv.h"
+
+static int failures;
+
+static void expect(uint64_t expected, uint64_t got, const char *what)
+{
+    if (expected != got) {
+        printf("%s: expected %llu, got %llu\n", what, (unsigned long long)expected, (unsigned long long)got);
+        failures++;
+    }
+}
+
+#define EXPECT(expected, got) expect((uint64_t)(expected), (uint64_t)(got), #got)
+
+static void put(uint8_t *to, uint64_t value, int bytes)
+{
+    for (int i = 0; i < bytes; i++)
+        to[i] = (uint8_t)(value >> 8 * i);
+}
+
+static uint64_t get(const uint8_t *from, int bytes)
+{
+    uint64_t value = 0;
+    for (int i = 0; i < bytes; i++)
+        value |= (uint64_t)from[i] << 8 * i;
+    return value;
+}
+
+static uint8_t file[1024];
+static size_t len;
+
+/* Sound of 5 samples, a picture, sound of 6 samples, the trailer. */
+static void record(void)
+{
+    uint64_t writer[AMV_WRITER_WORDS] = AMV_FRESH_WRITER(101, 102, 103, 104, 1);
+    uint64_t out[1] = {7};
+    uint8_t block[10] = {0};
+    const uint8_t picture[3] = {1, 2, 3};
+    EXPECT(101, writer[AMV_WRITER_WIDTH]);
+    EXPECT(102, writer[AMV_WRITER_HEIGHT]);
+    EXPECT(103, writer[AMV_WRITER_FPS]);
+    EXPECT(104, writer[AMV_WRITER_RATE]);
+    EXPECT(1, writer[AMV_WRITER_CHANNELS]);
+    EXPECT(AMV_OK, amv_write_header(writer, file, sizeof file, out));
+    EXPECT(0, out[AMV_PLACE]);
+    EXPECT(1, writer[AMV_WRITER_BEGUN]);
+    EXPECT(AMV_PRELUDE_LEN, writer[AMV_WRITER_WRITTEN]);
+    EXPECT(AMV_ERROR_ALREADY_BEGUN, amv_write_header(writer, file, sizeof file, out));
+    EXPECT(AMV_PRELUDE_LEN, out[AMV_PLACE]);
+    put(block + 4, 5, 4);
+    EXPECT(AMV_OK, amv_write_packet(writer, file, sizeof file, block, 10, AMV_STREAM_AUDIO, out));
+    EXPECT(0, writer[AMV_WRITER_FRAMES]);
+    EXPECT(AMV_OK, amv_write_packet(writer, file, sizeof file, picture, 3, AMV_STREAM_VIDEO, out));
+    EXPECT(1, writer[AMV_WRITER_FRAMES]);
+    put(block + 4, 6, 4);
+    EXPECT(AMV_OK, amv_write_packet(writer, file, sizeof file, block, 10, AMV_STREAM_AUDIO, out));
+    EXPECT(0, writer[AMV_WRITER_ENDED]);
+    EXPECT(AMV_OK, amv_write_trailer(writer, file, sizeof file, out));
+    EXPECT(1, writer[AMV_WRITER_ENDED]);
+    len = (size_t)writer[AMV_WRITER_WRITTEN];
+    EXPECT(316 + 18 + 11 + 18 + 8, len);
+}
+
+/* A prelude with another number in each field. */
+static void parse(void)
+{
+    uint8_t prelude[AMV_PRELUDE_LEN];
+    uint64_t out[AMV_PARSE_WORDS];
+    memcpy(prelude, file, sizeof prelude);
+    for (int i = 0; i < 7; i++)
+        put(prelude + (i == 0 ? 32 : 60 + 4 * i), 1001 + (uint64_t)i, 4);
+    put(prelude + 284, 1008, 2);
+    put(prelude + 286, 1009, 2);
+    put(prelude + 288, 1010, 4);
+    put(prelude + 292, 1011, 4);
+    put(prelude + 296, 1012, 2);
+    put(prelude + 298, 1013, 2);
+    put(prelude + 300, 1014, 2);
+    EXPECT(AMV_ERROR_WRONG_MICROS, amv_parse(prelude, sizeof prelude, true, out));
+    EXPECT(32, out[AMV_PLACE]);
+    EXPECT(AMV_OK, amv_parse(prelude, sizeof prelude, false, out));
+    EXPECT(1001, out[AMV_PARSE_MICROS_PER_FRAME]);
+    EXPECT(1002, out[AMV_PARSE_WIDTH]);
+    EXPECT(1003, out[AMV_PARSE_HEIGHT]);
+    EXPECT(1004, out[AMV_PARSE_FPS]);
+    EXPECT(1005, out[AMV_PARSE_FLAG_ONE]);
+    EXPECT(1006, out[AMV_PARSE_RESERVED_30]);
+    EXPECT(1007, out[AMV_PARSE_DURATION_PACKED]);
+    EXPECT(1008, out[AMV_PARSE_FORMAT_TAG]);
+    EXPECT(1009, out[AMV_PARSE_CHANNELS]);
+    EXPECT(1010, out[AMV_PARSE_SAMPLES_PER_SEC]);
+    EXPECT(1011, out[AMV_PARSE_AVG_BYTES_PER_SEC]);
+    EXPECT(1012, out[AMV_PARSE_BLOCK_ALIGN]);
+    EXPECT(1013, out[AMV_PARSE_BITS_PER_SAMPLE]);
+    EXPECT(1014, out[AMV_PARSE_CB_SIZE]);
+    EXPECT(AMV_PRELUDE_LEN, out[AMV_PARSE_MOVI_PAYLOAD_START]);
+}
+
+static void reads(void)
+{
+    uint64_t walker[AMV_WALKER_WORDS] = AMV_FRESH_WALKER;
+    uint64_t out[AMV_PACKET_WORDS];
+    EXPECT(AMV_OK, amv_next_packet(file, len, walker, out));
+    EXPECT(AMV_OK, amv_next_packet(file, len, walker, out));
+    EXPECT(AMV_STREAM_VIDEO, out[AMV_PACKET_STREAM]);
+    EXPECT(AMV_OK, amv_next_packet(file, len, walker, out));
+    EXPECT(1, out[AMV_PACKET_IS_PACKET]);
+    EXPECT(AMV_STREAM_AUDIO, out[AMV_PACKET_STREAM]);
+    EXPECT(316 + 18 + 11 + 8, out[AMV_PACKET_START]);
+    EXPECT(10, out[AMV_PACKET_LEN]);
+    EXPECT(5, out[AMV_PACKET_STAMP]);
+    EXPECT(6, out[AMV_PACKET_DURATION]);
+    EXPECT(len - 8, walker[AMV_WALKER_CURSOR]);
+    EXPECT(1, walker[AMV_WALKER_FRAMES]);
+    EXPECT(11, walker[AMV_WALKER_SAMPLES]);
+    EXPECT(2, walker[AMV_WALKER_BLOCKS]);
+    EXPECT(AMV_NOT_MET, walker[AMV_WALKER_TRAILER]);
+    uint64_t other[AMV_WALKER_WORDS];
+    memcpy(other, walker, sizeof other);
+    EXPECT(AMV_OK, amv_next_packet(file, len, walker, out));
+    EXPECT(0, out[AMV_PACKET_IS_PACKET]);
+    EXPECT(1, walker[AMV_WALKER_END]);
+    EXPECT(0, walker[AMV_WALKER_CUT]);
+    EXPECT(len - 8, walker[AMV_WALKER_TRAILER]);
+    EXPECT(AMV_OK, amv_next_packet(file, len - 1, other, out));
+    EXPECT(1, other[AMV_WALKER_CUT]);
+    walker[AMV_WALKER_END] = 2;
+    EXPECT(AMV_ERROR_ILLEGAL_STATE, amv_next_packet(file, len, walker, out));
+}
+
+static void index_and_jump(void)
+{
+    uint8_t table[3 * AMV_ENTRY_LEN];
+    uint64_t out[AMV_INDEX_WORDS], sought[AMV_SEEK_WORDS], counts[AMV_SUMMARY_WORDS];
+    uint64_t walker[AMV_WALKER_WORDS] = AMV_FRESH_WALKER;
+    EXPECT(AMV_ERROR_TABLE_TOO_SHORT, amv_build_chunk_index(file, len, table, sizeof table - 1, out));
+    EXPECT(AMV_OK, amv_build_chunk_index(file, len, table, sizeof table, out));
+    EXPECT(3, out[AMV_INDEX_COUNT]);
+    const uint8_t *last = table + 2 * AMV_ENTRY_LEN;
+    EXPECT(AMV_VIDEO_CHUNK_TAG, get(table + AMV_ENTRY_LEN + AMV_ENTRY_TAG, 4));
+    EXPECT(AMV_AUDIO_CHUNK_TAG, get(last + AMV_ENTRY_TAG, 4));
+    EXPECT(316 + 18 + 11, get(last + AMV_ENTRY_OFFSET, 4));
+    EXPECT(1, get(last + AMV_ENTRY_FRAMES, 4));
+    EXPECT(1, get(last + AMV_ENTRY_BLOCKS, 4));
+    EXPECT(0, get(table + AMV_ENTRY_LEN + AMV_ENTRY_FRAMES, 4));
+    EXPECT(1, get(table + AMV_ENTRY_LEN + AMV_ENTRY_BLOCKS, 4));
+    EXPECT(5, get(last + AMV_ENTRY_SAMPLES, 8));
+    EXPECT(AMV_OK, amv_seek_to_via_index(table, sizeof table, walker, AMV_STREAM_AUDIO, 1, sought));
+    EXPECT(5, sought[AMV_SEEK_STAMP]);
+    EXPECT(AMV_OK, amv_summary(file, len, counts));
+    EXPECT(1, counts[AMV_SUMMARY_FRAMES]);
+    EXPECT(2, counts[AMV_SUMMARY_BLOCKS]);
+    /* A file that is damaged at the last chunk: its first bytes have an index of the two before. */
+    uint8_t damaged[sizeof file];
+    memcpy(damaged, file, len);
+    damaged[316 + 18 + 11] = 'X';
+    EXPECT(AMV_ERROR_UNKNOWN_TAG, amv_build_chunk_index(damaged, len, table, sizeof table, out));
+    EXPECT(316 + 18 + 11, out[AMV_PLACE]);
+    EXPECT(AMV_OK, amv_build_chunk_index(damaged, (size_t)out[AMV_PLACE], table, sizeof table, out));
+    EXPECT(2, out[AMV_INDEX_COUNT]);
+}
+
+static void check(void)
+{
+    uint64_t out[AMV_CHECK_WORDS];
+    EXPECT(AMV_OK, amv_check(file, len, out));
+    EXPECT(1, out[AMV_CHECK_FRAMES]);
+    EXPECT(2, out[AMV_CHECK_BLOCKS]);
+    EXPECT(11, out[AMV_CHECK_SAMPLES]);
+    EXPECT(len - 8, out[AMV_CHECK_TRAILER]);
+    EXPECT(0, out[AMV_CHECK_PAIRED]);
+    EXPECT(AMV_ERROR_CHUNK_CUT, amv_check(file, len - 1, out));
+    EXPECT(len - 8, out[AMV_PLACE]);
+    EXPECT(AMV_ERROR_PRELUDE_CUT, amv_check(file, 0, out));
+}
+
+/* Every number has a question and a place of its own text, and no other number has them. */
+static void texts(void)
+{
+#define ROW(number, name, question, place) \
+    EXPECT(number, name); \
+    EXPECT(0, strcmp(question, amv_question(number))); \
+    EXPECT(0, strcmp(place, amv_place_is(number)));
+    AMV_REFUSALS(ROW)
+    EXPECT(0, strcmp("accepted", amv_question(AMV_OK)));
+    EXPECT(0, strcmp(amv_question(30), amv_question(4711)));
+    EXPECT(1, strcmp(amv_question(30), amv_question(31)) != 0);
+    char version[32];
+    snprintf(version, sizeof version, "%d.%d.%d", AMV_VERSION_MAJOR, AMV_VERSION_MINOR, AMV_VERSION_PATCH);
+    EXPECT(0, strcmp(version, AMV_VERSION));
+}
+
+static void others(void)
+{
+    const uint32_t tags[2] = {AMV_VIDEO_CHUNK_TAG, AMV_AUDIO_CHUNK_TAG};
+    uint64_t out[1];
+    EXPECT(AMV_OK, amv_validate_movi_interleave(tags, 2, out));
+    EXPECT(AMV_ERROR_ODD_CHUNK_COUNT, amv_validate_movi_interleave(tags, 1, out));
+    EXPECT(289, amv_from_frame_count(1116, 12));
+}
+
+int main(void)
+{
+    record();
+    parse();
+    reads();
+    index_and_jump();
+    check();
+    texts();
+    others();
+    return failures != 0;
+}
