@@ -1,3 +1,4 @@
+-- Document 01's cases, and others for every number: docs/FORMAT.md, section 14 has the numbers.
 pub mod Example
 pub mod Cases
 pub mod Numbers

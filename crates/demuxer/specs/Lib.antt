@@ -1,3 +1,4 @@
+-- One read: docs/FORMAT.md, section 5.
 pub mod Position
 pub mod Head
 pub mod Packet

@@ -1,2 +1,3 @@
+-- The lines of a listing: docs/FORMAT.md, section 13.
 pub mod Lines
 pub mod Written

@@ -1,3 +1,4 @@
+-- The finished recording, and the three claims about whole lists of calls: docs/FORMAT.md, sections 8 and 11.
 pub mod Grammar
 pub mod Drain
 pub mod Machine

@@ -1,1 +1,2 @@
+-- How stored answers are replayed: docs/VECTORS.md. Nothing of document 01.
 pub mod Cases
