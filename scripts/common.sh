@@ -62,7 +62,7 @@ keep_current() { # CRATE FILE
     [ "$(uname -m)" = x86_64 ] || fail "makes and runs programs for x86-64; this machine is $(uname -m)"
     kit=$(rt version)
     ! is_current "$1" "$2" || return 0
-    say "proving $1 and what it stands on, $(stands_on "$1" | wc -l) crates in all: two to three minutes on two cores where none is proved yet"
+    say "proving $1 and what it stands on, $(stands_on "$1" | wc -l) crates in all; where none is proved yet this takes minutes (README.md)"
     mkdir -p "$root/target/made"
     printf '%s\n' "$kit" >"$root/target/made/$1.new"
     make
