@@ -13,12 +13,9 @@ network.
 END
 }
 
+help_for "$@"
 [ $# -le 1 ] || fail "one word at most, and these are $# (./bench.sh --help)"
 case ${1-3001} in
--h | --help)
-    usage
-    exit 0
-    ;;
 --quick) runs=101 largest=16 ;;
 '' | *[!0-9]* | 0*) fail "RUNS is a number above 0, and not '$1' (./bench.sh --help)" ;;
 *) runs=${1-3001} largest=1024 ;;

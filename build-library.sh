@@ -15,12 +15,7 @@ is built. ./test.sh, ./bench.sh, ./compare.sh, examples/c/run.sh and the build o
 END
 }
 
-case ${1-} in
--h | --help)
-    usage
-    exit 0
-    ;;
-esac
+help_for "$@"
 [ $# -eq 0 ] || fail "takes no words, and these are $# (./build-library.sh --help)"
 
 library=$lib_dir/libamv.a

@@ -24,11 +24,8 @@ $beside/src. Needs cargo; no network.
 END
 }
 
+help_for "$@"
 case ${1-} in
--h | --help)
-    usage
-    exit 0
-    ;;
 vectors)
     [ $# -le 2 ] || fail "too many words (./compare.sh --help)"
     dir=${2-} mode=vectors

@@ -20,11 +20,8 @@ compiler (CC, or cc) to make the shared library.
 END
 }
 
+help_for "$@"
 case ${1-} in
--h | --help)
-    usage
-    exit 0
-    ;;
 '') fail "a PREFIX to install below is missing, as in ./install.sh /usr/local (./install.sh --help)" ;;
 -*) fail "there is no option $1 (./install.sh --help)" ;;
 esac

@@ -18,6 +18,7 @@ Exit status: 0 listed; 1 refused, a line with NO; 2 wrong use, or the program co
 END
 }
 
+help_for "$@"
 case $# in
 0)
     file=$root/examples/small.amv
@@ -29,10 +30,6 @@ esac
 
 # The file is opened before anything is proved, and from the folder that the caller is in.
 case $file in
--h | --help)
-    usage
-    exit 0
-    ;;
 '') fail "the file's name is empty" ;;
 -) exec 3<&0 ;;
 -*) fail "there is no option $file (./list.sh --help); a file of that name is ./$file" ;;

@@ -15,12 +15,7 @@ where they are there.
 END
 }
 
-case ${1-} in
--h | --help)
-    usage
-    exit 0
-    ;;
-esac
+help_for "$@"
 [ $# -eq 0 ] || fail "takes no words, and these are $# (./test.sh --help)"
 command -v "${CC:-cc}" >/dev/null || fail "needs a C compiler, and there is no ${CC:-cc} on the path"
 command -v cargo >/dev/null || fail "needs cargo, and there is none on the path"

@@ -165,8 +165,8 @@ uint32_t amv_summary(const uint8_t *file, size_t len, uint64_t out[AMV_SUMMARY_W
 
 /* Whether a file is a finished recording: the strict prelude, whole chunks, the trailer, and nothing after it. Ask it of what must be
  * finished, before it is handed on or graded; a file need not be finished to be played. out: place, frames, blocks, samples, offset of the
- * trailer, paired (1: pictures and sound alternate, a picture first and as many of each). Refuses with 10 to 24, 60, 61 and 31; a file that
- * is cut is 11 where its prelude is, else 60. */
+ * trailer, paired (1: pictures and sound alternate, a picture first and as many of each). Refuses with 10 to 24, 60, 61 and 31. A
+ * recording that is cut is 60; one that ends inside its prelude is 11. */
 enum {
     AMV_CHECK_FRAMES = 1,
     AMV_CHECK_BLOCKS,

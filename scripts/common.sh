@@ -9,6 +9,16 @@ fail() {
     exit 2
 }
 
+# Shows the script's usage, a function of its own, where that is asked for.
+help_for() { # the script's words
+    case ${1-} in
+    -h | --help)
+        usage
+        exit 0
+        ;;
+    esac
+}
+
 # The named crates and all of the repository that they stand on, by crates.txt.
 stands_on() {
     awk -v names="$*" '

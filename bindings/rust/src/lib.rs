@@ -500,7 +500,8 @@ pub struct Totals {
 }
 
 /// The totals of a finished recording: the strict prelude, whole chunks, the trailer, and nothing after it. To be asked of what must be
-/// finished; a file need not be to be played. Refuses with 10 to 24, 60, 61 and 31; a file that is cut is 11 where its prelude is, else 60.
+/// finished; a file need not be to be played. Refuses with 10 to 24, 60, 61 and 31. A recording that is cut is 60; one that ends inside its
+/// prelude is 11.
 pub fn check(file: &[u8]) -> Result<Totals> {
     let mut out = [0; 6];
     let number = unsafe { sys::amv_check(file.as_ptr(), file.len(), &mut out) };
