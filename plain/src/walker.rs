@@ -16,7 +16,7 @@ pub struct Walker {
     pub blocks: u64,
     /// Whether a read answers End.
     pub end: bool,
-    /// Whether a read has found that the file ends before its trailer.
+    /// Whether a read has found that the file ends before its trailer, at a chunk or inside one.
     pub cut: bool,
     /// The offset of the trailer, once a read has met it.
     pub trailer: Option<u64>,
