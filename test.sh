@@ -8,8 +8,8 @@ usage() {
 ./test.sh
 
 Runs what the gate does not: the C example, whose output must be the stored one; tests/header.c, which holds the
-names of include/amv.h against the library, as C99 to C2x and C++11 to C++20; both again over an installed
-library, static and shared; the tests of the Rust binding; and the scripts, used rightly and wrongly. The last
+names of include/amv.h against the library, as C99 to C2x and C++11 to C++20, and again over an installed library,
+static and shared; the tests of the Rust binding, over both; and the scripts, used rightly and wrongly. The last
 line is 'N passed, M failed'. Needs a C compiler (CC, or cc) and cargo; C++ (CXX, or c++) and pkg-config are used
 where they are there.
 END
