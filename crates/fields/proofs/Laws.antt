@@ -10,7 +10,7 @@ use native.Mathlib.Omega.{arith}
 use lib.Arith.{mod-mul}
 use lib.ListN.{length, getD, set, length-set, take, drop, length-append, length-take, length-drop, take-append-drop, List·getD-append, List·getD-eq-default}
 use lib.Seq.{paste, paste-suc, take-length, length-take-le, drop-cons, set-split, getD-append-add, getD-drop, getD-take, drop-append-add, drop-drop}
-use lib.Seq.{drop-at, take-at, take-add, take-take, take-append-add}
+use lib.Seq.{drop-at, take-at, set-at, take-add, take-take, take-append-add, take-suc}
 use Rattle.fields.specs.Le.{le, leBytes, put, putLe, Bytes}
 
 -- ---- reading
@@ -142,6 +142,27 @@ put-put xs off ys zs h =
 pub put-nothing : (xs : List ℕ) (off : ℕ) → put xs off [] ≡ xs
 unfolding put
 put-nothing xs off = rw add-zero (take-append-drop off xs)
+
+-- a write in place of another of the same length
+pub put-over : (xs : List ℕ) (off : ℕ) (ys zs : List ℕ) → off + length ys ≤ length xs → length zs ≡ length ys → put (put xs off ys) off zs ≡ put xs off zs
+unfolding put
+put-over xs off ys zs h e =
+    let l : length (take off xs) ≡ off = length-take-le off xs (omega arith) in
+    let t : take off (take off xs ++ (ys ++ drop (off + length ys) xs)) ≡ take off xs = take-at (take off xs) _ off l in
+    let d : drop (off + length zs) (take off xs ++ (ys ++ drop (off + length ys) xs)) ≡ drop (off + length ys) xs =
+    ap (λ (n : ℕ). drop (n + length zs) (take off xs ++ (ys ++ drop (off + length ys) xs))) (sym l)
+    ∙ drop-append-add (take off xs) (ys ++ drop (off + length ys) xs) (length zs)
+    ∙ drop-at ys (drop (off + length ys) xs) (length zs) (sym e) in
+    rw (t, d, e)
+
+-- a byte stored right before a write is the first of it
+pub put-before : (xs : List ℕ) (off b : ℕ) (ys : List ℕ) → off + 1 + length ys ≤ length xs → set (put xs (off + 1) ys) off b ≡ put xs off (b ∷ ys)
+unfolding put
+put-before xs off b ys h =
+    let l : length (take off xs) ≡ off = length-take-le off xs (omega arith) in
+    let n : off + suc (length ys) ≡ suc off + length ys = omega arith in
+    rw (add-one off, n, take-suc xs off 0 (omega arith), append-assoc (take off xs) (getD xs off 0 ∷ []) (ys ++ drop (suc off + length ys) xs))
+    (set-at (take off xs) (getD xs off 0) (ys ++ drop (suc off + length ys) xs) b off l)
 
 -- a turn of the loop that copies
 pub copy-more : (xs : List ℕ) (off : ℕ) (src : List ℕ) (i : ℕ) {ys : List ℕ} → off + length src ≤ length xs → i < length src

@@ -2,7 +2,8 @@
 use mathlib.Core.Path.{_≡_, refl}
 use mathlib.Core.Bool.{true, false}
 use mathlib.Core.List.{[], _∷_}
-use Rattle.lines.specs.Lines.{digits, chunkLine, totalsLine, refusalLine, longLine}
+use Rattle.text.specs.Text.{digits}
+use Rattle.lines.specs.Lines.{chunkLine, totalsLine, refusalLine, longLine}
 
 -- `V 316 0 0 0`
 frame : chunkLine true 316 0 0 0 ≡ 86 ∷ 32 ∷ 51 ∷ 49 ∷ 54 ∷ 32 ∷ 48 ∷ 32 ∷ 48 ∷ 32 ∷ 48 ∷ 10 ∷ []

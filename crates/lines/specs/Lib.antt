@@ -1,3 +1,2 @@
 -- The lines of a listing: docs/FORMAT.md, section 13.
 pub mod Lines
-pub mod Written

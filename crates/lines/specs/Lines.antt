@@ -1,17 +1,8 @@
 -- The lines of a listing. Document 01, "A small file, listed". Assumes nothing.
-use Prim.Native.Nat.{ℕ, zero, suc, _+_, _/_, _%_}
+use Prim.Native.Nat.{ℕ}
 use mathlib.Core.Bool.{Bool, cond}
 use mathlib.Core.List.{List, [], _∷_, _++_}
-use lib.Dec.{ltb}
-
--- the last k decimal digits of n in ASCII, the highest first, without leading zeros; 0 is `0`
-unfoldable pub digits : ℕ → ℕ → List ℕ
-digits zero n = []
-digits (suc k) n = cond (ltb n 10) ((48 + n) ∷ []) (digits k (n / 10) ++ ((48 + n % 10) ∷ []))
-
--- a number as 01 writes it, "V 316 0 0 0": a u64 has at most 20 digits
-abbrev pub decimal : ℕ → List ℕ
-decimal n = digits 20 n
+use Rattle.text.specs.Text.{decimal, kind}
 
 -- 01: "each line ends with one line feed", and one space stands before each word but the first
 abbrev pub spaced : List (List ℕ) → List ℕ
@@ -21,10 +12,6 @@ spaced (word ∷ words) = 32 ∷ (word ++ spaced words)
 -- a line: its first word and the others
 abbrev pub line : List ℕ → List (List ℕ) → List ℕ
 line first others = first ++ spaced others
-
--- `V` for a frame and `A` for a block
-abbrev pub kind : Bool → List ℕ
-kind frame = cond frame (86 ∷ []) (65 ∷ [])
 
 -- 01: "prints kind, offset, frames, samples, blocks before"
 unfoldable pub chunkLine : Bool → ℕ → ℕ → ℕ → ℕ → List ℕ

@@ -1,37 +1,14 @@
 // The lines of a listing, as bytes at an offset of a lent buffer. Each function answers where its bytes end. None refuses: a caller lends
 // the room that `requires` names, and so many bytes hold the longest line of the kind.
-ghost use mathlib.Core.Path.{_≡_};
+use text::put_digits;
+use text::put_kind;
+use text::put_word;
 ghost use mathlib.Core.List.{[], _∷_, _++_};
 ghost use Prim.Native.Nat.{_+_, _≤_};
-ghost use lib.ListN.{length, drop};
-ghost use Rattle.lines.specs.Lines.{decimal, kind, yesNo, PAIRED, spaced, chunkLine, totalsLine, refusalLine, longLine};
-ghost use Rattle.lines.specs.Written.{Written};
-
-// Copies a word to an offset: all other functions write by it.
-fn put_word(out: &mut [u8], off: usize, word: &[u8]) -> usize
-    requires { ⌜ off + length (now word) ≤ length (now out) ⌝ }
-    ensures { λ r. ⌜ Written (now (out .entry)) off (now (word .entry)) (now (out .exit)) r ⌝ }
-{
-    fields::copy_in(out, off, word);
-    off + word.len()
-}
-
-// Puts the digits of a number at the end of 20 bytes, and answers where they start.
-fn put_digits(digits: &mut [u8], n: u64) -> usize
-    requires { ⌜ length (now digits) ≡ 20 ⌝ }
-    ensures { λ r. ⌜ r ≤ 20 ⌝ }
-    ensures { λ r. ⌜ drop r (now (digits .exit)) ≡ decimal n ⌝ }
-{
-    let mut i: usize = 19;
-    let mut rest = n;
-    while rest > 9 {
-        digits[i] = 48 + (rest % 10) as u8;
-        rest /= 10;
-        i -= 1;
-    }
-    digits[i] = 48 + rest as u8;
-    i
-}
+ghost use lib.ListN.{length};
+ghost use Rattle.text.specs.Text.{decimal};
+ghost use Rattle.text.specs.Written.{Written};
+ghost use Rattle.lines.specs.Lines.{yesNo, PAIRED, spaced, chunkLine, totalsLine, refusalLine, longLine};
 
 // Puts a space and a number in decimal, without leading zeros: the form that every number of a line has.
 pub fn put_number(out: &mut [u8], off: usize, n: u64) -> usize
@@ -40,7 +17,7 @@ pub fn put_number(out: &mut [u8], off: usize, n: u64) -> usize
     ensures { λ r. ⌜ r ≤ off + 21 ⌝ }
 {
     let mut digits = [0u8; 20];
-    let from = put_digits(&mut digits, n);
+    let from = put_digits(&mut digits, 20, n);
     let at = put_word(out, off, b" ");
     put_word(out, at, &digits[from..])
 }
@@ -53,19 +30,6 @@ fn put_field(out: &mut [u8], off: usize, name: &[u8], n: u64) -> usize
 {
     let at = put_word(out, off, name);
     put_number(out, at, n)
-}
-
-// Puts the letter of a chunk's kind.
-fn put_kind(out: &mut [u8], off: usize, frame: bool) -> usize
-    requires { ⌜ off + 1 ≤ length (now out) ⌝ }
-    ensures { λ r. ⌜ Written (now (out .entry)) off (kind frame) (now (out .exit)) r ⌝ }
-    ensures { λ r. ⌜ r ≤ off + 1 ⌝ }
-{
-    if frame {
-        put_word(out, off, b"V")
-    } else {
-        put_word(out, off, b"A")
-    }
 }
 
 // Puts the end of the line of totals: whether each frame has its block.

@@ -7,8 +7,8 @@ use lib.ListN.{length, length-append}
 use Rattle.fields.specs.Le.{put}
 use Rattle.fields.proofs.Laws.{put-put, put-nothing}
 use Rattle.prelude.specs.Layout.{preludeLen}
-use Rattle.lines.specs.Written.{Written}
-use Rattle.lines.proofs.Laws.{same-size}
+use Rattle.text.specs.Written.{Written}
+use Rattle.text.proofs.Laws.{same-size}
 use Rattle.demuxer.specs.Position.{start}
 use Rattle.demuxer.specs.declared.position.Position.{Position}
 use Rattle.walk.specs.Steps.{Walked, pastAt}

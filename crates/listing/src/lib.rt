@@ -10,7 +10,7 @@ use walk::Step;
 use walk::step_at;
 ghost use Prim.Native.Nat.{_+_, _≤_};
 ghost use lib.ListN.{length};
-ghost use Rattle.lines.specs.Written.{Written};
+ghost use Rattle.text.specs.Written.{Written};
 ghost use Rattle.demuxer.specs.Position.{start};
 ghost use Rattle.walk.specs.Walk.{fileWalk};
 ghost use Rattle.finished.specs.Check.{checkOf};

@@ -2,7 +2,7 @@
 -- `chunkLine`; the ends add up to 86 at most.
 -- Assumes nothing.
 use Rattle.lines.specs.Lines.{chunkLine}
-use Rattle.lines.proofs.Laws.{join}
+use Rattle.text.proofs.Laws.{join}
 use native.Mathlib.Omega.{arith}
 use borrow.Author.Needs.{needs}
 use Rattle.lines.proofs.put_chunk_line.Statement.{statement}

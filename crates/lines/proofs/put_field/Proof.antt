@@ -1,7 +1,7 @@
 -- `lines::put_field` meets its contract. The number is put where the name ends, and `join` makes the two one word.
 -- Assumes nothing.
 use native.Mathlib.Omega.{arith}
-use Rattle.lines.proofs.Laws.{join}
+use Rattle.text.proofs.Laws.{join}
 use borrow.Author.Needs.{needs}
 use Rattle.lines.proofs.put_field.Statement.{statement}
 use Rattle.lines.proofs.put_field.Tie as tie

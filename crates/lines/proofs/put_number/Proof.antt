@@ -1,12 +1,12 @@
--- `lines::put_number` meets its contract. `join` makes one word of the space and of the array from the first digit on, which by `tail` are all of the
--- digits that `put_digits` left there.
+-- `lines::put_number` meets its contract. `join` makes one word of the space and of the array from the first digit on, which by `part` are the digits
+-- that `put_digits` put there: 20 at most (`digits-most`).
 -- Assumes nothing.
-use mathlib.Core.Path.{ap, _∙_}
+use mathlib.Core.Path.{ap}
 use mathlib.Core.List.{List, _∷_}
-use Prim.Native.Nat.{ℕ, _-_}
+use Prim.Native.Nat.{ℕ}
 use native.Mathlib.Omega.{arith}
-use lib.ListN.{drop, length-take}
-use Rattle.lines.proofs.Laws.{join, same, tail}
+use Rattle.text.proofs.Digits.{digits-most}
+use Rattle.text.proofs.Laws.{join, same, part}
 use borrow.Author.Needs.{needs}
 use Rattle.lines.proofs.put_number.Statement.{statement}
 use Rattle.lines.proofs.put_number.Tie as tie
@@ -15,7 +15,7 @@ slice-aggregate-put-digits : tie.Need-slice-aggregate-put-digits
 slice-aggregate-put-digits c = search needs
 
 put-digits-requires : tie.Need-put-digits-requires
-put-digits-requires c κs = search needs
+put-digits-requires c κs = (digits-most 20 (c .before .before .args .n), omega arith)
 
 slice-aggregate-put-word : tie.Need-slice-aggregate-put-word
 slice-aggregate-put-word c = search needs
@@ -41,12 +41,9 @@ same-length c = search needs
 returns : tie.Need-returns
 returns c = let w = c .before .before in
     let s = w .before .before .before .before .before .before in
-    let d = s .before .before .before .before in
-    let from = d .put-digits .result in
-    let digits = d .put-digits .last .0 in (
-      same (join (s .put-word .ensures) (w .put-word2 .ensures))
-          (ap (λ (k : List ℕ). 32 ∷ k) (tail digits 20 from (omega arith) ∙ d .put-digits .ensures .1)),
-      omega (arith, length-take (20 - from) (drop from digits)),
+    let d = s .before .before .before .before .put-digits .ensures in (
+      same (join (s .put-word .ensures) (w .put-word2 .ensures)) (ap (λ (k : List ℕ). 32 ∷ k) (part d)),
+      omega (arith, w .put-word2 .ensures .ends, s .put-word .ensures .ends, d .ends),
     )
 
 pub put-number-spec : {M : Type 1} → statement M

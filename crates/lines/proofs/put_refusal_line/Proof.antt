@@ -2,7 +2,7 @@
 -- `refusalLine`.
 -- Assumes nothing.
 use Rattle.lines.specs.Lines.{refusalLine}
-use Rattle.lines.proofs.Laws.{join}
+use Rattle.text.proofs.Laws.{join}
 use native.Mathlib.Omega.{arith}
 use borrow.Author.Needs.{needs}
 use Rattle.lines.proofs.put_refusal_line.Statement.{statement}

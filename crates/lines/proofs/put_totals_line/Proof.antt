@@ -2,7 +2,7 @@
 -- the ends add up to 119 at most.
 -- Assumes nothing.
 use Rattle.lines.specs.Lines.{totalsLine}
-use Rattle.lines.proofs.Laws.{join}
+use Rattle.text.proofs.Laws.{join}
 use native.Mathlib.Omega.{arith}
 use borrow.Author.Needs.{needs}
 use Rattle.lines.proofs.put_totals_line.Statement.{statement}

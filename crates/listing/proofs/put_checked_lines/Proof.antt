@@ -3,7 +3,7 @@
 -- Assumes nothing.
 use mathlib.Core.Path.{sym, ap, _∙_}
 use borrow.Author.Needs.{needs}
-use Rattle.lines.proofs.Laws.{join}
+use Rattle.text.proofs.Laws.{join}
 use Rattle.finished.specs.Check.{saidCheck}
 use Rattle.listing.proofs.put_checked_lines.Statement.{statement}
 use Rattle.listing.proofs.put_checked_lines.Tie as tie

@@ -2,7 +2,7 @@
 -- Assumes nothing.
 use mathlib.Core.Path.{refl, sym}
 use lib.Seq.{length-take-le}
-use Rattle.lines.proofs.Laws.{ends-within}
+use Rattle.text.proofs.Laws.{ends-within}
 use Rattle.vectors.proofs.run.run_listing.Statement.{statement}
 use Rattle.vectors.proofs.run.run_listing.Tie as tie
 
