@@ -18,7 +18,8 @@ use Rattle.walk.specs.Walk.{stepAt, walkFor, walk}
 use Rattle.walk.specs.Chunks.{chunkBytes, chunksBytes}
 use Rattle.chunk_index.specs.Entry.{entryBytes, tableBytes, entryAt, entriesFrom}
 use Rattle.chunk_index.specs.Index.{records, tagsKnown, indexOf}
-use Rattle.seek.specs.Seek.{goodEntries, seekQuestions, find, pastLast, seekOf}
+use Rattle.table.specs.Table.{askEach}
+use Rattle.seek.specs.Seek.{seekQuestions, find, pastLast, seekOf}
 use Rattle.finished.specs.Check.{tagsOf, checkFrom, checkOf}
 use Rattle.cases.specs.Cases.{Cases}
 use Rattle.cases.specs.Example.{E}
@@ -27,7 +28,7 @@ pub cases : Cases
 unfolding le leBytes packedOf runLength ofSeconds interleaveFrom headerFields headerSentinels cbSizeOf waveFormatFields waveFormatOf waveFormatSentinels
     preludeBytes layout askWord askBody askItems preludeFields parseOf zeros zeroRanges validatedOf strictOf preambleOf headAt countOf payloadOf shownOf inRange
     readFrame readSound readChunk readOf stepAt walkFor walk chunkBytes chunksBytes entryBytes tableBytes entryAt entriesFrom records tagsKnown indexOf
-    goodEntries seekQuestions find pastLast seekOf tagsOf checkFrom checkOf E
+    askEach seekQuestions find pastLast seekOf tagsOf checkFrom checkOf E
 cases =
     record {
       one = refl;

@@ -25,7 +25,8 @@ use Rattle.walk.specs.Chunks.{chunkBytes, chunksBytes}
 use Rattle.chunk_index.specs.Entry.{entryBytes, tableBytes, entryAt, entriesFrom}
 use Rattle.chunk_index.specs.Index.{records, tagsKnown, indexOf, buildOf}
 use Rattle.chunk_index.specs.Summary.{countsFrom, summaryOf}
-use Rattle.seek.specs.Seek.{goodEntries, seekQuestions, find, pastLast, seekOf}
+use Rattle.table.specs.Table.{askEach}
+use Rattle.seek.specs.Seek.{seekQuestions, find, pastLast, seekOf}
 use Rattle.muxer.specs.declared.Writer.{Writer}
 use Rattle.muxer.specs.Writer.{outcome, headerQuestions, headerCall, packetQuestions, packetCall, trailerQuestions, trailerCall}
 use Rattle.finished.specs.Check.{tagsOf, checkFrom, checkOf}
@@ -63,7 +64,7 @@ pub numbers : Numbers
 unfolding le leBytes put interleaveFrom headerFields headerOf headerSentinels cbSizeOf waveFormatFields waveFormatSentinels preambleOf chunkHeaderOf
     preludeBytes layout askWord askBody askItems preludeFields parseOf zeros zeroRanges validatedOf strictOf headAt countOf inRange readFrame readSound
     readChunk readOf stepAt walkFor walk chunkBytes chunksBytes entryBytes tableBytes entryAt entriesFrom records tagsKnown indexOf buildOf countsFrom summaryOf
-    goodEntries seekQuestions find pastLast seekOf tagsOf checkFrom checkOf headerQuestions headerCall packetQuestions packetCall trailerQuestions trailerCall E
+    askEach seekQuestions find pastLast seekOf tagsOf checkFrom checkOf headerQuestions headerCall packetQuestions packetCall trailerQuestions trailerCall E
     P T
 numbers =
     record {

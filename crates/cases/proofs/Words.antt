@@ -16,7 +16,8 @@ use Rattle.walk.specs.Chunks.{chunkBytes, chunksBytes}
 use Rattle.chunk_index.specs.Entry.{entryBytes, tableBytes, entryAt, entriesFrom}
 use Rattle.chunk_index.specs.Index.{records, tagsKnown, indexOf, buildOf}
 use Rattle.chunk_index.specs.Summary.{countsFrom, summaryOf}
-use Rattle.seek.specs.Seek.{goodEntries, seekQuestions, find, pastLast, seekOf}
+use Rattle.table.specs.Table.{askEach}
+use Rattle.seek.specs.Seek.{seekQuestions, find, pastLast, seekOf}
 use Rattle.finished.specs.Check.{tagsOf, checkFrom, checkOf}
 use Rattle.words.specs.State.{walkerLegal, settingsLegal, writerLegal}
 use Rattle.cases.specs.Example.{E}
@@ -26,7 +27,7 @@ use Rattle.cases.specs.Words.{Words}
 pub words : Words
 unfolding le leBytes put interleaveFrom headerFields headerSentinels cbSizeOf waveFormatFields waveFormatSentinels preambleOf preludeBytes layout askWord
     askBody askItems preludeFields parseOf zeros zeroRanges validatedOf strictOf headAt countOf inRange readFrame readSound readChunk readOf stepAt walkFor walk
-    chunkBytes chunksBytes entryBytes tableBytes entryAt entriesFrom records tagsKnown indexOf buildOf countsFrom summaryOf goodEntries seekQuestions find
+    chunkBytes chunksBytes entryBytes tableBytes entryAt entriesFrom records tagsKnown indexOf buildOf countsFrom summaryOf askEach seekQuestions find
     pastLast seekOf tagsOf checkFrom checkOf walkerLegal settingsLegal writerLegal E P T
 words =
     record {

@@ -1,4 +1,4 @@
--- The number and the place of each case of `AmvError`, as document 01 fixes them. Assumes nothing.
+-- The number and the place of each case of `AmvError`, as documents 01 and 02 fix them. Assumes nothing.
 use Rattle.error.specs.Answer.{Answer, accepted, refused, numbered}
 use Rattle.error.specs.declared.Refusal.{Refusal}
 use Rattle.error.specs.declared.AmvError.{AmvError}
@@ -8,11 +8,11 @@ use Rattle.error.specs.declared.AmvError.the-variants.{WrongCbSize, Prea
 use Rattle.error.specs.declared.AmvError.the-variants.{ChunkHeaderTooShort, UnknownTag, StateOutOfRange, TableTooShort, TableRagged}
 use Rattle.error.specs.declared.AmvError.the-variants.{NoSuchStream, BadRecord, AlreadyBegun, NotBegun, PayloadTooLong, PacketOfNoStream}
 use Rattle.error.specs.declared.AmvError.the-variants.{NoRoom, AlreadyEnded, PreludeMissing, ChunkCut, AfterTrailer, VideoAtOddPosition}
-use Rattle.error.specs.declared.AmvError.the-variants.{AudioAtEvenPosition, OtherAtPosition, OddChunkCount}
+use Rattle.error.specs.declared.AmvError.the-variants.{AudioAtEvenPosition, OtherAtPosition, OddChunkCount, SamplesTooWide}
 use Rattle.error.specs.declared.AmvResult.{AmvResult}
 use Rattle.error.specs.declared.AmvResult.the-variants.{Ok, Err}
 
--- in the order of 01's numbers
+-- in the order of the numbers
 abbrev pub refusalOf : AmvError → Refusal
 refusalOf FileTooLong = numbered 10 0
 refusalOf (PreludeCut place) = numbered 11 place
@@ -53,6 +53,7 @@ refusalOf (VideoAtOddPosition position) = numbered 62 position
 refusalOf (AudioAtEvenPosition position) = numbered 63 position
 refusalOf (OtherAtPosition position) = numbered 64 position
 refusalOf (OddChunkCount count) = numbered 65 count
+refusalOf (SamplesTooWide place) = numbered 70 place
 
 -- the result of a call that only checks
 abbrev pub said : AmvResult → Answer Unit

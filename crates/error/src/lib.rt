@@ -1,15 +1,15 @@
-// The refusals: one case for each question of document 01 that a call can answer with no.
+// The refusals: one case for each question of documents 01 and 02 that a call can answer with no.
 ghost use mathlib.Core.Path.{_≡_};
 ghost use Rattle.error.specs.Answer.{numberOf, placeOf};
 ghost use Rattle.error.specs.Refusal.{refusalOf, said};
 
-// A refusal as 01 gives it: the number of the question, and the place where it was asked.
+// A refusal as the documents give it: the number of the question, and the place where it was asked.
 pub struct Refusal {
     pub number: u32,
     pub place: u64,
 }
 
-// Why a call refuses: a case for each question, carrying its place where 01 does not fix it. `refusal` gives each case's number.
+// Why a call refuses: a case for each question, carrying its place where no document fixes it. `refusal` gives each case's number.
 pub enum AmvError {
     FileTooLong,
     PreludeCut(u64),
@@ -50,6 +50,7 @@ pub enum AmvError {
     AudioAtEvenPosition(u64),
     OtherAtPosition(u64),
     OddChunkCount(u64),
+    SamplesTooWide(u64),
 }
 
 // What a call answers that only checks: nothing to say, or a refusal.
@@ -59,7 +60,7 @@ pub enum AmvResult {
 }
 
 impl AmvError {
-    // Number and place of a case, in the order of 01's numbers.
+    // Number and place of a case, in the order of the numbers.
     fn refusal(self) -> Refusal
         ensures { λ r. ⌜ r ≡ refusalOf self ⌝ }
     {
@@ -196,6 +197,7 @@ impl AmvError {
                 number: 65,
                 place: count,
             },
+            AmvError::SamplesTooWide(place) => Refusal { number: 70, place },
         }
     }
 

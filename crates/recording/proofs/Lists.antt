@@ -25,7 +25,8 @@ use Rattle.demuxer.proofs.Ranges.{in-range}
 use Rattle.walk.specs.Chunks.{Chunk, chunkOf, chunkBytes, chunksBytes}
 use Rattle.chunk_index.specs.Entry.{entryLen, tableBytes, entriesOf}
 use Rattle.chunk_index.specs.declared.entry.ChunkIndexEntry.{ChunkIndexEntry}
-use Rattle.seek.specs.Seek.{seekQuestions, goodEntries, find, pastLast, landed, soughtFrom, seekOf}
+use Rattle.table.specs.Table.{goodEntries}
+use Rattle.seek.specs.Seek.{seekQuestions, find, pastLast, landed, soughtFrom, seekOf}
 use Rattle.recording.specs.Grammar.{Finished}
 use Rattle.recording.specs.Drain.{drain}
 use Rattle.recording.specs.Machine.{Call, read, seek, MachineStep, onRead, onSeek, first, refuses, machineStep, machineSays, machineAfter}
@@ -192,7 +193,7 @@ module _ (file : List ℕ) (cs : List Chunk) (all : Bytes file) (fin : Finished 
       let z = size in
       table-back (marks start cs) (marks-fit start cs chunk-bytes (omega arith) (omega arith) (omega arith) (omega arith))
 
-  all-fine : goodEntries 0 (marks start cs) ≡ accepted tt
+  all-fine : goodEntries (marks start cs) ≡ accepted tt
   all-fine =
       let f = fin .fits in
       let z = size in

@@ -22,7 +22,8 @@ use Rattle.walk.specs.declared.Kind.{Kind}
 use Rattle.walk.specs.declared.Kind.the-variants.{Frame, Sound}
 use Rattle.walk.specs.Chunks.{Chunk, chunkOf, chunkBytes, chunksBytes}
 use Rattle.chunk_index.specs.Entry.{entryLen, entry}
-use Rattle.seek.specs.Seek.{stampOf, goodEntry, goodEntries, reaches, find, beyond, pastLast}
+use Rattle.table.specs.Table.{askEach, goodEntry}
+use Rattle.seek.specs.Seek.{stampOf, reaches, find, beyond, pastLast}
 use Rattle.recording.specs.Drain.{drainFrom}
 use Rattle.recording.specs.Machine.{first}
 use Rattle.recording.proofs.Positions.{passed, shownAt, positionAt, drainAt, drain-cons, stepped, length-chunk, bytes-payload}
@@ -112,8 +113,8 @@ good-mark p Frame h = lt-ltb (p .samples .0) countLimit h
 good-mark p Sound h = lt-ltb (p .samples .0) countLimit h
 
 pub all-good : (place : ℕ) (p : Position) (cs : List Chunk) → Bytes (chunksBytes cs)
-    → p .samples .0 + 268435456 * length (chunksBytes cs) < countLimit → goodEntries place (marks p cs) ≡ accepted tt
-unfolding goodEntries marks chunksBytes
+    → p .samples .0 + 268435456 * length (chunksBytes cs) < countLimit → askEach goodEntry 43 place (marks p cs) ≡ accepted tt
+unfolding askEach marks chunksBytes
 all-good place p [] y h = refl
 all-good place p (chunkOf kind payload ∷ cs) y h =
     let l = length-append (chunkBytes (chunkOf kind payload)) (chunksBytes cs) in

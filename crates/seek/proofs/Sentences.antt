@@ -4,11 +4,10 @@ use mathlib.Core.Path.{_≡_, refl, sym, ap, _∙_, subst}
 use mathlib.Core.Bool.{Bool, true, false, cond}
 use mathlib.Core.List.{List, [], _∷_, _++_}
 use mathlib.Core.Option.{Option, none, some}
-use Prim.Native.Nat.{ℕ, _%_}
+use Prim.Native.Nat.{ℕ}
 use borrow.Author.Tests.{eq-eqb, eqb-true}
 use lib.Dec.{eqb, leb}
 use lib.IntN.{ℤ, pos}
-use lib.ListN.{length}
 use lib.Signed.{leZ}
 use Rattle.fields.proofs.Impossible.{impossible}
 use Rattle.chunk.specs.Chunk.{streamTag}
@@ -17,12 +16,14 @@ use Rattle.error.specs.Sentences.{RefusedBy}
 use Rattle.error.specs.declared.Refusal.{Refusal}
 use Rattle.error.proofs.Answers.{never, clash, accepted-same, both}
 use Rattle.error.proofs.Sentences.{asked-by, then-by}
-use Rattle.chunk_index.specs.Entry.{entryLen, entriesOf}
+use Rattle.chunk_index.specs.Entry.{entriesOf}
 use Rattle.chunk_index.specs.declared.entry.ChunkIndexEntry.{ChunkIndexEntry}
 use Rattle.demuxer.specs.Position.{inRange}
 use Rattle.demuxer.specs.declared.position.Position.{Position}
 use Rattle.demuxer.specs.declared.walker.Walker.{Walker}
-use Rattle.seek.specs.Seek.{stampOf, goodEntry, goodEntries, seekQuestions, reaches, find, beyond, pastLast, Seeking, movedTo, landed, soughtFrom, seekOf}
+use Rattle.table.specs.Table.{wholeRecords, goodEntry, goodEntries}
+use Rattle.table.proofs.Sentences.{whole-by, each-by}
+use Rattle.seek.specs.Seek.{stampOf, seekQuestions, reaches, find, beyond, pastLast, Seeking, movedTo, landed, soughtFrom, seekOf}
 use Rattle.seek.specs.Sentences.{Reaches, NoneReaches, GoneTo, Past, SeekSentences}
 
 -- ---- the search
@@ -164,20 +165,17 @@ module _ (table : List ℕ) (w : Walker) (stream : ℕ) (request : ℤ) where
 
 -- ---- the numbers
 
-good-by : (place : ℕ) (es : List ChunkIndexEntry) → RefusedBy (41 ∷ 42 ∷ 43 ∷ 32 ∷ []) (goodEntries place es)
-unfolding goodEntries
-good-by place [] = tt
-good-by place (e ∷ es) = asked-by (41 ∷ 42 ∷ 43 ∷ 32 ∷ []) (goodEntry e) 43 place _ refl (good-by _ es)
-
 asked : (table : List ℕ) (w : Walker) (stream : ℕ) → RefusedBy (41 ∷ 42 ∷ 43 ∷ 32 ∷ []) (seekQuestions table w stream)
 unfolding seekQuestions
 asked table w stream =
     let ns : List ℕ = 41 ∷ 42 ∷ 43 ∷ 32 ∷ [] in
     let last : Unit → Answer Unit = λ _. ask (inRange (w .position)) 32 0 (accepted tt) in
-    let rest : Answer Unit = andThen (goodEntries 0 (entriesOf table)) last in
-    asked-by ns (eqb (length table % entryLen) 0) 41 0 (ask (leb stream 1) 42 0 rest) refl
-    (asked-by ns (leb stream 1) 42 0 rest refl
-    (then-by ns (goodEntries 0 (entriesOf table)) last (good-by 0 (entriesOf table)) (λ u. asked-by ns (inRange (w .position)) 32 0 (accepted tt) refl tt)))
+    let rest : Answer Unit = andThen (goodEntries (entriesOf table)) last in
+    then-by ns (wholeRecords table) (λ _. ask (leb stream 1) 42 0 rest) (whole-by ns refl table)
+    (λ u.
+    asked-by ns (leb stream 1) 42 0 rest refl
+    (then-by ns (goodEntries (entriesOf table)) last (each-by ns goodEntry 43 refl 0 (entriesOf table))
+    (λ u. asked-by ns (inRange (w .position)) 32 0 (accepted tt) refl tt)))
 
 pub seek-sentences : SeekSentences
 seek-sentences =

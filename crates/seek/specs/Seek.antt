@@ -1,20 +1,20 @@
 -- The indexed seek. Assumes nothing.
-use Prim.Native.Nat.{ℕ, _+_, _%_}
-use mathlib.Core.Bool.{Bool, true, false, cond, _&&_, _||_}
+use Prim.Native.Nat.{ℕ, _+_}
+use mathlib.Core.Bool.{Bool, true, false, cond, _&&_}
 use mathlib.Core.List.{List, [], _∷_}
 use mathlib.Core.Option.{Option, none, some}
-use lib.Dec.{leb, ltb, eqb}
+use lib.Dec.{leb, eqb}
 use lib.IntN.{ℤ, pos}
-use lib.ListN.{length}
 use lib.Signed.{leZ}
 use Rattle.chunk.specs.Chunk.{videoTag, audioTag, streamTag}
-use Rattle.chunk_index.specs.Entry.{entryLen, entriesOf}
+use Rattle.chunk_index.specs.Entry.{entriesOf}
 use Rattle.chunk_index.specs.declared.entry.ChunkIndexEntry.{ChunkIndexEntry}
-use Rattle.demuxer.specs.Position.{countLimit, inRange}
+use Rattle.demuxer.specs.Position.{inRange}
 use Rattle.demuxer.specs.declared.position.Position.{Position}
 use Rattle.demuxer.specs.declared.walker.Walker.{Walker}
 use Rattle.error.specs.Answer.{Answer, accepted, refused, ask, andThen}
 use Rattle.error.specs.Refusal.{refusalOf}
+use Rattle.table.specs.Table.{wholeRecords, goodEntries}
 use Rattle.seek.specs.declared.SeekResult.{SeekResult}
 use Rattle.seek.specs.declared.SeekResult.the-variants.{Ok, Err}
 use Rattle.seek.specs.declared.SeekOutcome.{SeekOutcome}
@@ -23,21 +23,13 @@ use Rattle.seek.specs.declared.SeekOutcome.{SeekOutcome}
 abbrev pub stampOf : ℕ → Position → ℕ
 stampOf stream p = cond (eqb stream 0) (p .frames .0) (p .samples .0)
 
--- 01: "Tags known and samples below 2^62?"
-abbrev pub goodEntry : ChunkIndexEntry → Bool
-goodEntry e = (eqb (e .tag) videoTag || eqb (e .tag) audioTag) && ltb (e .position .samples .0) countLimit
-
--- "43, place of the record's start"
-unfoldable pub goodEntries : ℕ → List ChunkIndexEntry → Answer Unit
-goodEntries place [] = accepted tt
-goodEntries place (e ∷ es) = ask (goodEntry e) 43 place (goodEntries (place + entryLen) es)
-
 -- the questions of the seek, in their order: 41, 42, 43 record by record, 32
 unfoldable pub seekQuestions : List ℕ → Walker → ℕ → Answer Unit
 seekQuestions table w stream =
-    ask (eqb (length table % entryLen) 0) 41 0
-    (ask (leb stream 1) 42 0
-    (andThen (goodEntries 0 (entriesOf table)) (λ _. ask (inRange (w .position)) 32 0 (accepted tt))))
+    andThen (wholeRecords table)
+    (λ _.
+    ask (leb stream 1) 42 0
+    (andThen (goodEntries (entriesOf table)) (λ _. ask (inRange (w .position)) 32 0 (accepted tt))))
 
 -- "The first record of the stream whose stamp reaches the signed request"
 abbrev pub reaches : ℕ → ℤ → ChunkIndexEntry → Bool

@@ -6,6 +6,9 @@ use demuxer::position::Position;
 use demuxer::walker::Walker;
 use error::AmvError;
 use error::AmvResult;
+use table::TableResult;
+use table::good_entries;
+use table::whole_records;
 ghost use mathlib.Core.Path.{_≡_};
 ghost use mathlib.Core.Bool.{cond};
 ghost use Prim.Native.Nat.{_+_, _≤_};
@@ -15,7 +18,7 @@ ghost use Rattle.error.specs.Refusal.{said};
 ghost use Rattle.fields.specs.Capped.{u32Max};
 ghost use Rattle.chunk_index.specs.Entry.{entriesOf};
 ghost use Rattle.chunk_index.specs.Steps.{Small};
-ghost use Rattle.seek.specs.Seek.{goodEntry, goodEntries, seekQuestions, stampOf, reaches, find, beyond, pastLast};
+ghost use Rattle.seek.specs.Seek.{seekQuestions, stampOf, reaches, find, beyond, pastLast};
 ghost use Rattle.seek.specs.Seek.{movedTo, landed, saidSeekOutcome, seekOf};
 ghost use Rattle.seek.specs.Steps.{least, foundOf};
 
@@ -37,49 +40,19 @@ enum Found {
     Nowhere,
 }
 
-// A known tag, and samples below the limit.
-fn good_entry(e: ChunkIndexEntry) -> bool
-    ensures { λ r. ⌜ r ≡ goodEntry e ⌝ }
-{
-    let position = e.position;
-    if demuxer::position::COUNT_LIMIT <= position.samples.0 {
-        return false;
-    }
-    if e.tag == chunk::VIDEO_CHUNK_TAG {
-        return true;
-    }
-    e.tag == chunk::AUDIO_CHUNK_TAG
-}
-
-// The first record that is not good is refused, at its start.
-fn good_entries(table: &[u8]) -> AmvResult
-    ensures { λ r. ⌜ said r ≡ goodEntries 0 (entriesOf (now (table .entry))) ⌝ }
-{
-    let mut at: usize = 0;
-    let mut left = table.len();
-    while ChunkIndexEntry::LEN <= left {
-        left -= ChunkIndexEntry::LEN;
-        if !good_entry(ChunkIndexEntry::read(table, at)) {
-            return AmvResult::Err(AmvError::BadRecord(at as u64));
-        }
-        at += ChunkIndexEntry::LEN;
-    }
-    AmvResult::Ok
-}
-
 // The questions of a seek.
 fn ask_seek(walker: Walker, table: &[u8], stream: u32) -> AmvResult
     ensures { λ r. ⌜ said r ≡ seekQuestions (now (table .entry)) walker stream ⌝ }
 {
-    if table.len() % ChunkIndexEntry::LEN != 0 {
-        return AmvResult::Err(AmvError::TableRagged);
+    if let AmvResult::Err(e) = whole_records(table) {
+        return AmvResult::Err(e);
     }
     if 1 < stream {
         return AmvResult::Err(AmvError::NoSuchStream);
     }
     match good_entries(table) {
-        AmvResult::Err(e) => AmvResult::Err(e),
-        AmvResult::Ok => {
+        TableResult::Err(e) => AmvResult::Err(e),
+        TableResult::Ok(_) => {
             let position = walker.position;
             if !position.in_range() {
                 return AmvResult::Err(AmvError::StateOutOfRange);

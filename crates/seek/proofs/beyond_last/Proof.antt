@@ -5,7 +5,8 @@ use mathlib.Core.Path.{sym, ap, _∙_}
 use Rattle.fields.specs.Le.{Bytes}
 use Rattle.chunk_index.specs.Entry.{entriesFrom}
 use Rattle.seek.specs.Seek.{beyond, pastLast}
-use Rattle.seek.proofs.Records.{entry-small, past-records}
+use Rattle.table.proofs.Records.{entry-small}
+use Rattle.seek.proofs.Records.{past-records}
 use borrow.Author.Needs.{needs}
 use Rattle.seek.proofs.beyond_last.Statement.{statement}
 use Rattle.seek.proofs.beyond_last.Tie as tie

@@ -9,7 +9,8 @@ use lib.IntN.{pos}
 use lib.ListN.{length}
 use Rattle.chunk_index.specs.Entry.{entryLen, entriesFrom, entriesOf}
 use Rattle.seek.specs.Seek.{find}
-use Rattle.seek.proofs.Records.{entries-off, find-on, find-here}
+use Rattle.table.proofs.Records.{entries-off}
+use Rattle.seek.proofs.Records.{find-on, find-here}
 use Rattle.seek.proofs.find_entry.Statement.{statement}
 use Rattle.seek.proofs.find_entry.Tie as tie
 

@@ -128,6 +128,9 @@ enum-known-self-18 c = search needs
 enum-known-self-19 : tie.Need-enum-known-self-19
 enum-known-self-19 c = search needs
 
+enum-known-self-20 : tie.Need-enum-known-self-20
+enum-known-self-20 c = search needs
+
 returns : tie.Need-returns
 returns c = is (c .enum-told .given .1)
 
@@ -245,6 +248,9 @@ returns-38 c = is (c .before .self18 .given .1)
 returns-39 : tie.Need-returns-39
 returns-39 c = is (c .before .self19 .given .1)
 
+returns-40 : tie.Need-returns-40
+returns-40 c = is (c .before .self20 .given .1)
+
 pub refusal-spec : {M : Type 1} → statement M
 refusal-spec =
     tie.close
@@ -288,6 +294,7 @@ refusal-spec =
     enum-known-self-17
     enum-known-self-18
     enum-known-self-19
+    enum-known-self-20
     returns
     returns-2
     returns-3
@@ -326,4 +333,5 @@ refusal-spec =
     returns-36
     returns-37
     returns-38
-    returns-39)
+    returns-39
+    returns-40)

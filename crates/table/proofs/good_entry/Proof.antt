@@ -1,10 +1,10 @@
--- `seek::good_entry` meets its contract. Too many samples decide alone (`good-many`); with few enough the two tags do (`good-few`).
+-- `table::good_entry` meets its contract. Too many samples decide alone (`good-many`); with few enough the two tags do (`good-few`).
 -- Assumes nothing.
 use mathlib.Core.Path.{sym}
 use borrow.Author.Tests.{eq-eqb, ne-eqb}
-use Rattle.seek.proofs.Records.{good-many, good-few}
-use Rattle.seek.proofs.good_entry.Statement.{statement}
-use Rattle.seek.proofs.good_entry.Tie as tie
+use Rattle.table.proofs.Records.{good-many, good-few}
+use Rattle.table.proofs.good_entry.Statement.{statement}
+use Rattle.table.proofs.good_entry.Tie as tie
 
 returns : tie.Need-returns
 returns c = sym (good-many (c .before .before .before .args .e) (c .if1 .taken))

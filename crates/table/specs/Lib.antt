@@ -1,0 +1,3 @@
+-- Tables of records: docs/FORMAT.md, sections 6, 7 and 15.
+pub mod Table
+pub mod Steps
