@@ -42,8 +42,8 @@ impl Record {
         }
     }
 
-    /// Whether a jump takes it: a known tag, and fewer than 2^62 samples.
-    pub(crate) fn is_good(&self) -> bool {
+    /// Whether a table may have it: a known tag, and fewer than 2^62 samples.
+    fn is_good(&self) -> bool {
         (self.tag == VIDEO || self.tag == AUDIO) && self.samples < COUNT_LIMIT
     }
 
@@ -116,6 +116,25 @@ pub fn build_chunk_index(file: &[u8], table: &mut [u8]) -> Answer<u64> {
         }
     })?;
     Ok(count as u64)
+}
+
+/// The records of a table that a call is given. Asks 41; then what the call asks in between, whose answer it gives;
+/// then 43 of each record, from the first to the last, and calls `each` with the place and the record if that passes.
+#[inline(always)]
+pub(crate) fn good_records(
+    table: &[u8],
+    between: Answer<()>,
+    mut each: impl FnMut(u64, Record),
+) -> Answer<&[[u8; RECORD]]> {
+    let (records, rest) = table.as_chunks();
+    ask(rest.is_empty(), 41, 0)?;
+    between?;
+    for (i, bytes) in records.iter().enumerate() {
+        let (place, record) = ((RECORD * i) as u64, Record::read(bytes));
+        ask(record.is_good(), 43, place)?;
+        each(place, record);
+    }
+    Ok(records)
 }
 
 /// How many frames and blocks the index has. Refuses with 10 and 31.

@@ -1,6 +1,7 @@
 //! Jumps (docs/FORMAT.md, 7).
 
-use crate::{AUDIO, Answer, RECORD, Record, VIDEO, Walker, ask, refuse, stream_tag};
+use crate::index::good_records;
+use crate::{AUDIO, Answer, RECORD, Record, VIDEO, Walker, ask, stream_tag};
 
 /// Takes the walker to the first record of the stream that is stamped at or after the request, or to the end, and gives the stamp there.
 /// Refuses with 41, 42, 43 and 32.
@@ -11,13 +12,7 @@ pub fn seek_to_via_index(
     stream: u32,
     request: i64,
 ) -> Answer<u64> {
-    let (records, rest) = table.as_chunks();
-    ask(rest.is_empty(), 41, 0)?;
-    ask(stream <= 1, 42, 0)?;
-    let bad = |bytes| !Record::read(bytes).is_good();
-    if let Some(bad) = records.iter().position(bad) {
-        return refuse(43, (RECORD * bad) as u64);
-    }
+    let records = good_records(table, ask(stream <= 1, 42, 0), |_, _| {})?;
     walker.in_range()?;
     Ok(jump(records, walker, stream, request))
 }
