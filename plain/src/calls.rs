@@ -25,6 +25,12 @@ pub fn seek_to_via_index(
     crate::seek_to_via_index(table, walker, stream, request)
 }
 
+/// The page.
+#[inline(never)]
+pub fn print_index(table: &[u8], page: &mut [u8]) -> Answer<u64> {
+    crate::print_index(table, page)
+}
+
 /// The check.
 #[inline(never)]
 pub fn check(file: &[u8]) -> Answer<Totals> {

@@ -1,5 +1,6 @@
-//! A second implementation of document 01, written from 01 alone, in 01's order; docs/FORMAT.md says the same in other words, and its
-//! sections are cited here. It serves twice: `compare/` holds the library and the original against it, and `bench/` times the library
+//! A second implementation of document 01, written from 01 alone, in 01's order, and of the calls that document 02
+//! adds, each written from its request; docs/FORMAT.md says the same in other words, and its sections are cited
+//! here. It serves twice: `compare/` holds the library and the original against it, and `bench/` times the library
 //! against it. So it is as one would write it in Rust for speed, and as plain as that allows.
 //!
 //! 01's headings, and where they are here:
@@ -10,6 +11,10 @@
 //! - Index and seek: `index`, `seek`
 //! - The finished recording: `finished`
 //! - Other pieces: `summary` in `index`, `validate_movi_interleave` in `finished`; single bodies are in `compare/`, which alone needs them
+//!
+//! 02's requests:
+//!
+//! - M-100, a page for the printer: `page`; what it asks of a table first, and a jump too, is `good_records` in `index`
 //!
 //! Where a call on a state asks questions first and then acts, the acting part is a function of its own. The rules for known differences
 //! in `compare/` use it to say what the original, which does not ask, answers instead.
@@ -22,6 +27,7 @@ pub mod calls;
 mod finished;
 mod head;
 mod index;
+mod page;
 mod prelude;
 mod seek;
 mod walker;
@@ -30,6 +36,7 @@ mod writer;
 
 pub use finished::{Totals, check, validate_movi_interleave};
 pub use index::{Record, build_chunk_index, records, summary};
+pub use page::{LINE, print_index};
 pub use prelude::{Header, Prelude, Settings, Wave, build_prelude_bytes, parse, parse_strict};
 pub use seek::{jump, seek_to_via_index};
 pub use walker::{Packet, Walker, next_packet, read_on};

@@ -280,6 +280,21 @@ pub unsafe extern "C" fn seek_to_via_index(
     }
 }
 
+/// The page.
+#[inline(never)]
+pub unsafe extern "C" fn print_index(
+    table: *const u8,
+    table_len: usize,
+    page: *mut u8,
+    page_len: usize,
+    out: *mut [u64; 2],
+) -> u32 {
+    unsafe {
+        let lines = crate::print_index(slice(table, table_len), slice_mut(page, page_len));
+        store(lines, out, |lines| [0, lines])
+    }
+}
+
 /// The summary.
 #[inline(never)]
 pub unsafe extern "C" fn summary(file: *const u8, len: usize, out: *mut [u64; 3]) -> u32 {
