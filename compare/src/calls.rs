@@ -6,6 +6,7 @@ use plain::{Record, Refusal, Walker};
 use crate::grammar;
 use crate::interface::{LIBRARY, PLAIN};
 use crate::original::{self, Told};
+use crate::pages;
 use crate::rules::{self, Expected};
 use crate::said::{Said, Write, accepted, refused};
 use crate::tally::{Tally, hex};
@@ -262,6 +263,25 @@ fn told_seek(table: &[u8], mut state: Walker, stream: u32, request: i64) -> (Tol
     let records = original::read_table(table);
     let told = original::seek_to_via_index(&records, &mut state, stream, request);
     (told, state)
+}
+
+/// The page of a table, into lent bytes. The original has none: what is said of every page takes its place.
+pub fn print_index(tally: &mut Tally, table: &[u8], given: &[u8]) {
+    let mut page = given.to_vec();
+    let plain = PLAIN.print_index(table, &mut page);
+    let mut lent = Guarded::new(given);
+    let library = LIBRARY.print_index(table, lent.lent());
+    let library_same = plain == library && lent.holds(&page);
+    let stands = pages::stands(table, given, library, lent.lent());
+    tally.judge("print_index", library_same && stands, || {
+        format!(
+            "page {} of table {}: plain {plain:?} {}, library {library:?} {}, stands {stands}",
+            hex(given),
+            hex(table),
+            hex(&page),
+            hex(lent.lent())
+        )
+    });
 }
 
 /// The summary. The original has none: its records are counted.

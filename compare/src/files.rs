@@ -192,18 +192,22 @@ pub const WORDS: [[u8; 4]; 11] = [
     u32::MAX.to_le_bytes(),
 ];
 
+/// Calls `each` with every list of so many of the items.
+pub fn all_lists<T: Copy>(items: &[T], count: u32, mut each: impl FnMut(&[T])) {
+    let base = items.len();
+    for number in 0..base.pow(count) {
+        let place = |i| items[number / base.pow(i) % base];
+        let list: Vec<T> = (0..count).map(place).collect();
+        each(&list);
+    }
+}
+
 /// Calls `each` on a good prelude followed by every list of up to `most` words, and by that with each of 1 to 3 bytes more.
 pub fn all_short(most: u32, mut each: impl FnMut(&[u8])) {
     let prelude = plain::build_prelude_bytes(EXAMPLE_SETTINGS, 0);
-    let base = WORDS.len() as u32;
     for count in 0..=most {
-        for list in 0..base.pow(count) {
-            let mut file = prelude.to_vec();
-            let mut rest = list;
-            for _ in 0..count {
-                file.extend(WORDS[(rest % base) as usize]);
-                rest /= base;
-            }
+        all_lists(&WORDS, count, |words| {
+            let mut file = [&prelude, words.as_flattened()].concat();
             each(&file);
             if count < most {
                 for extra in [&b"0"[..], b"00", b"00d"] {
@@ -212,6 +216,6 @@ pub fn all_short(most: u32, mut each: impl FnMut(&[u8])) {
                     each(&file);
                 }
             }
-        }
+        });
     }
 }

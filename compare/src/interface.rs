@@ -10,13 +10,17 @@ use crate::said::{Said, Write};
 
 type Out<const N: usize> = *mut [u64; N];
 
+/// A function that reads bytes, writes others from their start on, and answers how many items these are.
+type Filling = unsafe extern "C" fn(*const u8, usize, *mut u8, usize, Out<2>) -> u32;
+
 /// The functions of the interface.
 pub struct Interface {
     parse: unsafe extern "C" fn(*const u8, usize, bool, Out<16>) -> u32,
     next_packet: unsafe extern "C" fn(*const u8, usize, *mut WalkerWords, Out<7>) -> u32,
-    build_chunk_index: unsafe extern "C" fn(*const u8, usize, *mut u8, usize, Out<2>) -> u32,
+    build_chunk_index: Filling,
     seek_to_via_index:
         unsafe extern "C" fn(*const u8, usize, *mut WalkerWords, u32, i64, Out<2>) -> u32,
+    print_index: Filling,
     summary: unsafe extern "C" fn(*const u8, usize, Out<3>) -> u32,
     check: unsafe extern "C" fn(*const u8, usize, Out<6>) -> u32,
     write_header: unsafe extern "C" fn(*mut WriterWords, *mut u8, usize, Out<1>) -> u32,
@@ -40,6 +44,7 @@ pub const LIBRARY: Interface = Interface {
     next_packet: c::amv_next_packet,
     build_chunk_index: c::amv_build_chunk_index,
     seek_to_via_index: c::amv_seek_to_via_index,
+    print_index: c::amv_print_index,
     summary: c::amv_summary,
     check: c::amv_check,
     write_header: c::amv_write_header,
@@ -55,6 +60,7 @@ pub const PLAIN: Interface = Interface {
     next_packet: words::next_packet,
     build_chunk_index: words::build_chunk_index,
     seek_to_via_index: words::seek_to_via_index,
+    print_index: words::print_index,
     summary: words::summary,
     check: words::check,
     write_header: words::write_header,
@@ -101,6 +107,12 @@ fn start_mut<T>(slice: &mut [T]) -> *mut T {
 
 // SAFETY, for each call below: the arrays have the lengths that the interface names, slices go with their own length, and no two
 // of them overlap.
+
+fn fill(function: Filling, from: &[u8], to: &mut [u8]) -> Said<2> {
+    let (bytes, len) = (start_mut(to), to.len());
+    with_out(|out| unsafe { function(start(from), from.len(), bytes, len, out) })
+}
+
 impl Interface {
     pub fn parse(&self, file: &[u8], strict: bool) -> Said<16> {
         with_out(|out| unsafe { (self.parse)(start(file), file.len(), strict, out) })
@@ -113,10 +125,7 @@ impl Interface {
     }
 
     pub fn build_chunk_index(&self, file: &[u8], table: &mut [u8]) -> Said<2> {
-        let (records, len) = (start_mut(table), table.len());
-        with_out(|out| unsafe {
-            (self.build_chunk_index)(start(file), file.len(), records, len, out)
-        })
+        fill(self.build_chunk_index, file, table)
     }
 
     pub fn seek_to_via_index(
@@ -132,6 +141,10 @@ impl Interface {
                 (self.seek_to_via_index)(records, len, walker, stream, request, out)
             })
         })
+    }
+
+    pub fn print_index(&self, table: &[u8], page: &mut [u8]) -> Said<2> {
+        fill(self.print_index, table, page)
     }
 
     pub fn summary(&self, file: &[u8]) -> Said<3> {

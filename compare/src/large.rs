@@ -1,9 +1,10 @@
-//! Files, payloads and buffers at the file limit. Their pages are zero until written, so they take little memory.
+//! Files, payloads and buffers at the file limit, and a printer's page and tables past it. Their memory is zero until
+//! written, so they take little of it.
 
 use plain::words::{WalkerWords, walker_words, writer_words};
 use plain::{FILE_LIMIT as LIMIT, PRELUDE, TRAILER, VIDEO, Walker, Writer};
 
-use crate::interface::{LIBRARY, PLAIN};
+use crate::interface::{Interface, LIBRARY, PLAIN};
 use crate::rules;
 use crate::said::{Said, Write, accepted, refused};
 use crate::tally::Tally;
@@ -27,6 +28,7 @@ pub fn suite(tally: &mut Tally) {
     beyond(tally, &file);
     long_payload(tally, &file);
     writes(tally, &mut file);
+    pages(tally, &mut file);
     tally.equal("write_packet", 52, original::write_by_value(file), || {
         "a payload past the limit".into()
     });
@@ -194,5 +196,31 @@ fn write_at_limit(tally: &mut Tally, given: &Writer, buf: &mut Vec<u8>, call: Wr
     });
     if plain.0.number == 54 {
         tally.met(rules::WRITE_LIMIT);
+    }
+}
+
+/// A page and tables whose lengths need more than 32 bits: what 32 bits keep of each would be answered otherwise.
+fn pages(tally: &mut Tally, bytes: &mut [u8]) {
+    const WRAPS: usize = 1 << 32;
+    let record = plain::Record {
+        tag: VIDEO,
+        offset: 316,
+        frames: 2,
+        blocks: 3,
+        samples: 4,
+    };
+    let mut print = |interface: Interface| {
+        bytes[..80].fill(0xc3);
+        let said = interface.print_index(&record.bytes(), &mut bytes[..WRAPS + 39]);
+        (said, bytes[..80].to_vec())
+    };
+    let line = b"V       316         2                  4";
+    let page = [&line[..], &[0xc3; 40]].concat();
+    let expected = (accepted(&[1]), page);
+    judge(tally, "print_index", expected, print(PLAIN), print(LIBRARY));
+    for (table_len, number) in [(WRAPS + 8, 43), (WRAPS + 24, 41)] {
+        let table = &bytes[..table_len];
+        let [plain, library] = [PLAIN, LIBRARY].map(|side| side.print_index(table, &mut []));
+        judge(tally, "print_index", refused(number, 0), plain, library);
     }
 }

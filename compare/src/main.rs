@@ -16,6 +16,7 @@ mod lent;
 mod listing;
 mod lists;
 mod original;
+mod pages;
 mod pieces;
 mod programs;
 mod random;

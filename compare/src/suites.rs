@@ -7,6 +7,7 @@ use crate::calls::{self, Guarded};
 use crate::files;
 use crate::lists;
 use crate::original;
+use crate::pages;
 use crate::pieces;
 use crate::random::Random;
 use crate::said::Write;
@@ -30,6 +31,7 @@ pub fn movi(tally: &mut Tally, file: &[u8], table_slack: usize) {
     let table_len = (exact + table_slack).saturating_sub(RECORD);
     calls::build_chunk_index(tally, &mut original, file, table_len);
     calls::before_unknown_tag(tally, file);
+    pages::of_index(tally, file, count);
     let mut walker = words::walker_words(&Walker::fresh());
     for _ in 0..count + 2 {
         let said = calls::next_packet(tally, &mut original, file, &mut walker);
@@ -45,6 +47,7 @@ pub fn movi(tally: &mut Tally, file: &[u8], table_slack: usize) {
 pub fn exhaustive(tally: &mut Tally, random: &mut Random) {
     tag_lists(tally);
     run_lengths(tally);
+    pages::short(tally);
     for _ in 0..20 {
         pieces::bodies(tally, random);
     }
@@ -81,15 +84,9 @@ fn single_bytes(tally: &mut Tally) {
 /// All lists of up to eight tags.
 fn tag_lists(tally: &mut Tally) {
     for count in 0..=8 {
-        for list in 0..3u32.pow(count) {
-            let mut rest = list;
-            let mut tags = Vec::new();
-            for _ in 0..count {
-                tags.push([VIDEO, AUDIO, 0][(rest % 3) as usize]);
-                rest /= 3;
-            }
-            calls::validate_movi_interleave(tally, &tags);
-        }
+        files::all_lists(&[VIDEO, AUDIO, 0], count, |tags| {
+            calls::validate_movi_interleave(tally, tags);
+        });
     }
 }
 
@@ -132,11 +129,13 @@ pub fn round(tally: &mut Tally, random: &mut Random) {
     whole_file(tally, &file, slack);
     walkers(tally, random, &file);
     tables(tally, random);
+    pages::round(tally, random);
     writers(tally, random);
     lists::writing_calls(tally, random);
     let file = files::finished(random);
     whole_file(tally, &file, RECORD);
     lists::reads_and_seeks(tally, random, &file);
+    pages::of_recording(tally, &file);
 }
 
 /// Mostly paired, so that long lists pass or fail late.
