@@ -6,7 +6,7 @@ mod sides;
 use std::hint::black_box;
 use std::time::Instant;
 
-use plain::{PRELUDE, RECORD, calls};
+use plain::{LINE, PRELUDE, RECORD, calls};
 use sides::{CALLS, LIBRARY, Side, WORDS};
 
 /// The payload of the small frames.
@@ -96,6 +96,14 @@ fn races(runs: usize) {
         sides::SEEKS as usize * count,
         |side| (side.seeks)(&table),
     );
+    let mut page = vec![0; LINE * count];
+    race("page, 60 KiB of 16-byte frames", runs, count, |side| {
+        (side.page)(&table, &mut page)
+    });
+    (LIBRARY.index)(&paired, &mut table);
+    race("page, frames and blocks", runs, count, |side| {
+        (side.page)(&table, &mut page)
+    });
     race("check, 60 KiB of 16-byte frames", runs, count, |side| {
         (side.check)(&frames)
     });

@@ -9,6 +9,7 @@ pub struct Side {
     pub index: fn(&[u8], &mut [u8]) -> u64,
     pub drain: fn(&[u8]) -> u64,
     pub seeks: fn(&[u8]) -> u64,
+    pub page: fn(&[u8], &mut [u8]) -> u64,
     pub check: fn(&[u8]) -> u64,
     pub write: fn(&mut [u8], usize, &[u8]) -> u64,
 }
@@ -19,16 +20,22 @@ pub const SEEKS: i64 = 64;
 const FRESH: WalkerWords = [PRELUDE as u64, 0, 0, 0, 0, 0, u64::MAX];
 const FRESH_WRITER: WriterWords = [160, 120, 12, 22_050, 1, 0, 0, 0, 0];
 
+/// A function that reads bytes, writes others from their start on, and answers how many items these are.
+type Filling = unsafe extern "C" fn(*const u8, usize, *mut u8, usize, *mut [u64; 2]) -> u32;
+
+#[inline(always)]
+fn fill(function: Filling, from: &[u8], to: &mut [u8]) -> u64 {
+    let mut out = [0; 2];
+    let (bytes, len) = (to.as_mut_ptr(), to.len());
+    let number = unsafe { function(from.as_ptr(), from.len(), bytes, len, &mut out) };
+    out[1] + number as u64
+}
+
 /// The two sides that have the C interface differ in the functions alone.
 macro_rules! side_of_words {
-    ($next:path, $index:path, $seek:path, $check:path, $header:path, $packet:path, $trailer:path) => {
+    ($next:path, $index:path, $seek:path, $print:path, $check:path, $header:path, $packet:path, $trailer:path) => {
         Side {
-            index: |file, table| {
-                let mut out = [0; 2];
-                let (records, len) = (table.as_mut_ptr(), table.len());
-                let number = unsafe { $index(file.as_ptr(), file.len(), records, len, &mut out) };
-                out[1] + number as u64
-            },
+            index: |file, table| fill($index, file, table),
             drain: |file| {
                 let (mut walker, mut out) = (FRESH, [0; 7]);
                 let mut sum = 0;
@@ -52,6 +59,7 @@ macro_rules! side_of_words {
                 }
                 sum
             },
+            page: |table, page| fill($print, table, page),
             check: |file| {
                 let mut out = [0; 6];
                 let number = unsafe { $check(file.as_ptr(), file.len(), &mut out) };
@@ -78,6 +86,7 @@ pub const LIBRARY: Side = side_of_words!(
     c::amv_next_packet,
     c::amv_build_chunk_index,
     c::amv_seek_to_via_index,
+    c::amv_print_index,
     c::amv_check,
     c::amv_write_header,
     c::amv_write_packet,
@@ -88,6 +97,7 @@ pub const WORDS: Side = side_of_words!(
     words::next_packet,
     words::build_chunk_index,
     words::seek_to_via_index,
+    words::print_index,
     words::check,
     words::write_header,
     words::write_packet,
@@ -118,6 +128,7 @@ pub const CALLS: Side = Side {
         }
         sum
     },
+    page: |table, page| calls::print_index(table, page).unwrap(),
     check: |file| {
         let totals = calls::check(file).unwrap();
         let paired = totals.paired as u64;
