@@ -1,12 +1,13 @@
-//! Answers that the original does not have. Each is written out here from 01's text, those with number 1 from the header of the C
-//! interface; the plain implementation must answer the same before a case is stored, so that two readings of 01 meet.
+//! Answers that the original does not have. Each is written out here from 01's text, those with number 1 from the
+//! header of the C interface, those of a page from 02's text; the plain implementation must answer the same before a
+//! case is stored, so that two readings of each text meet.
 
 use plain::words::{WalkerWords, WriterWords};
 use plain::{AUDIO, VIDEO};
 
 use super::{
-    BUILD_CHUNK_INDEX, CHECK, Call, Cases, LISTING, NEXT_PACKET, PARSE, SEEK_TO_VIA_INDEX, SUMMARY,
-    request_words, written_parts,
+    BUILD_CHUNK_INDEX, CHECK, Call, Cases, LISTING, NEXT_PACKET, PARSE, PRINT_INDEX,
+    SEEK_TO_VIA_INDEX, SUMMARY, request_words, written_parts,
 };
 use crate::interface::PLAIN;
 use crate::said::{Said, Write, accepted, refused};
@@ -16,8 +17,12 @@ use crate::{files, listing};
 const MOST: u64 = 4_611_686_018_427_387_904;
 const OVER: u64 = 4_611_686_018_427_387_905;
 
+/// 10^18, and 2^64 - 1.
+const MANY: u64 = 1_000_000_000_000_000_000;
+const LAST: u64 = 18_446_744_073_709_551_615;
+
 /// A walker's word where no trailer was met.
-const NOT_MET: u64 = 18_446_744_073_709_551_615;
+const NOT_MET: u64 = LAST;
 
 const FRESH: WalkerWords = [316, 0, 0, 0, 0, 0, NOT_MET];
 
@@ -110,6 +115,21 @@ fn refused_index(cases: &mut Cases, file: &[u8], room: usize, number: u32, place
         ..call_of(BUILD_CHUNK_INDEX, file)
     };
     cases.add(call, number.into(), &[place, 0], &lent);
+}
+
+/// A page of so many bytes, and the lines that it begins with after the call; every other byte stays.
+fn print_index(cases: &mut Cases, table: &[u8], room: usize, stated: Said<2>, lines: &[&str]) {
+    let lent = vec![0xc3; room];
+    let lines = lines.concat();
+    let after = [lines.as_bytes(), &lent[lines.len()..]].concat();
+    let mut page = lent.clone();
+    let said = PLAIN.print_index(table, &mut page);
+    assert_eq!((said, &page), (stated, &after));
+    let call = Call {
+        lent: &lent,
+        ..call_of(PRINT_INDEX, table)
+    };
+    cases.add(call, stated.number.into(), &stated.out, &after);
 }
 
 /// A refused writing call: every word of the state and every byte of the buffer stays.
@@ -493,6 +513,84 @@ fn indexes_and_jumps(cases: &mut Cases) {
     }
 }
 
+/// Pages of E's index, with room to spare and without, and of other counts.
+fn pages(cases: &mut Cases) {
+    let index = index_of((b"00dc", 0), (b"01wb", 0));
+    let lines = [
+        "V       316         0                  0",
+        "A       327         1                  0",
+    ];
+    for room in [80, 81, 160] {
+        print_index(cases, &index, room, accepted(&[2]), &lines);
+    }
+    print_index(cases, &index[..24], 40, accepted(&[1]), &lines[..1]);
+    for room in [0, 1, 40] {
+        print_index(cases, &[], room, accepted(&[0]), &[]);
+    }
+    // Samples of 1, 2, 17 and 18 digits, and the largest of every field.
+    for (samples, line) in [
+        (9, "A       327         1                  9"),
+        (10, "A       327         1                 10"),
+        (
+            99_999_999_999_999_999,
+            "A       327         1  99999999999999999",
+        ),
+        (
+            100_000_000_000_000_000,
+            "A       327         1 100000000000000000",
+        ),
+        (
+            999_999_999_999_999_999,
+            "A       327         1 999999999999999999",
+        ),
+    ] {
+        let index = index_of((b"00dc", 0), (b"01wb", samples));
+        let lines = [lines[0], line];
+        print_index(cases, &index, 81, accepted(&[2]), &lines);
+    }
+    let largest = plain::Record {
+        tag: VIDEO,
+        offset: u32::MAX,
+        frames: u32::MAX,
+        blocks: 5,
+        samples: MANY - 1,
+    };
+    let line = "V42949672954294967295 999999999999999999";
+    print_index(cases, &largest.bytes(), 41, accepted(&[1]), &[line]);
+}
+
+fn refused_pages(cases: &mut Cases) {
+    let index = index_of((b"00dc", 0), (b"01wb", 0));
+    let mut refuse = |table: &[u8], room, number, place| {
+        print_index(cases, table, room, refused(number, place), &[]);
+    };
+    for length in [1, 23, 25, 47] {
+        refuse(&index[..length], 80, 41, 0);
+    }
+    for room in [0, 1, 39, 40, 79] {
+        refuse(&index, room, 40, 0);
+    }
+    // The order 41, 43, 70, 40, each of the whole table: what is asked later has the answer no as well.
+    let bad = index_of((b"00dc", MANY), (b"01wc", 0));
+    refuse(&bad[..47], 0, 41, 0);
+    for (first, second, number, place) in [
+        ((b"00db", 0), (b"01wb", 0), 43, 0),
+        ((b"00dc", 0), (b"01wc", 0), 43, 24),
+        ((b"00dc", MOST), (b"01wb", 0), 43, 0),
+        ((b"00dc", 0), (b"01wb", LAST), 43, 24),
+        ((b"00dc", MANY), (b"01wc", 0), 43, 24),
+        ((b"00dc", MANY), (b"01wb", MOST), 43, 24),
+        ((b"00dc", MANY), (b"01wb", 0), 70, 0),
+        ((b"00dc", 0), (b"01wb", MANY), 70, 24),
+        ((b"00dc", MANY), (b"01wb", MANY), 70, 0),
+        ((b"00dc", 0), (b"01wb", MOST - 1), 70, 24),
+    ] {
+        let index = index_of(first, second);
+        refuse(&index, 80, number, place);
+        refuse(&index, 79, number, place);
+    }
+}
+
 /// The writer of E with these words: begun, ended, bytes written, frames.
 fn writer([begun, ended, written, frames]: [u64; 4]) -> WriterWords {
     [8, 8, 12, 8000, 1, begun, ended, written, frames]
@@ -518,7 +616,6 @@ fn writes(cases: &mut Cases) {
     }
     const WRAPS_11: u64 = 18_446_744_073_709_551_605;
     const WRAPS_8: u64 = 18_446_744_073_709_551_608;
-    const LAST: u64 = 18_446_744_073_709_551_615;
     // The call; begun, ended, bytes written, frames; the buffer's length; number and place.
     for (write, state, room, number, place) in [
         (Header, [0, 0, 0, 0], 0, 54, 0),
@@ -605,6 +702,8 @@ pub fn all(cases: &mut Cases) {
     tails(cases);
     reads(cases);
     indexes_and_jumps(cases);
+    pages(cases);
+    refused_pages(cases);
     writes(cases);
     listings(cases);
 }
