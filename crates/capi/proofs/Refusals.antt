@@ -20,6 +20,7 @@ use Rattle.chunk_index.specs.declared.entry.ChunkIndexEntry.{ChunkIndexEntry}
 use Rattle.seek.specs.Seek.{seekQuestions, find, landed, soughtFrom, seekOf}
 use Rattle.muxer.proofs.Writes.{header-refused, packet-refused, trailer-refused}
 use Rattle.muxer.specs.declared.Writer.{Writer}
+use Rattle.page.specs.Page.{pageQuestions, printedFrom, printOf}
 use Rattle.recording.specs.WriteLists.{WriteCall, header, packet, trailer, writeStep}
 use Rattle.words.specs.Out.{given, checked, unlessRefused, readWords}
 use Rattle.words.specs.State.{walkerOf, walkerWords, writerOf, writerWords}
@@ -36,6 +37,14 @@ index-keeps file table r = go (andThen (indexOf file) (λ es. ask (leb (entryLen
   where
     go : (a : Answer (List ChunkIndexEntry)) → given single (builtFrom table a .answer) ≡ refused r → builtFrom table a .table ≡ table
     go (accepted es) h = never h
+    go (refused q) h = refl
+
+page-keeps : (table page : List ℕ) (r : Refusal) → given single (printOf table page .answer) ≡ refused r → printOf table page .page ≡ page
+unfolding printOf
+page-keeps table page r = go (pageQuestions table (length page))
+  where
+    go : (a : Answer Unit) → given single (printedFrom page (entriesOf table) a .answer) ≡ refused r → printedFrom page (entriesOf table) a .page ≡ page
+    go (accepted u) h = never h
     go (refused q) h = refl
 
 -- a read
@@ -97,6 +106,7 @@ pub refusals-keep : RefusalsKeep
 refusals-keep =
     record {
       index = index-keeps;
+      page = page-keeps;
       next = λ file ws r l h. walker-keeps ws (nextAnswer file) (nextWalker file) r l (λ w h. refused-stays file w (read-refused w _ h)) (walkerOf ws) refl h;
       seek =
           λ table ws stream request r l h.

@@ -1,4 +1,4 @@
--- What each exported function answers and leaves, over the definitions of 01's calls. Assumes nothing.
+-- What each exported function answers and leaves, over the definitions of 01's and 02's calls. Assumes nothing.
 use mathlib.Core.Path.{_≡_}
 use Prim.Native.Nat.{ℕ}
 use mathlib.Core.Bool.{Bool, cond}
@@ -15,6 +15,7 @@ use Rattle.seek.specs.Seek.{seekOf}
 use Rattle.muxer.specs.Writer.{WriteOutcome}
 use Rattle.muxer.specs.declared.Writer.{Writer}
 use Rattle.finished.specs.Check.{checkOf}
+use Rattle.page.specs.Page.{printOf}
 use Rattle.finished.specs.declared.Totals.{Totals}
 use Rattle.words.specs.Out.{OutSays, given, checked, unlessRefused, readWords, preludeWords}
 use Rattle.words.specs.State.{markWord, walkerOf, walkerWords, writerOf, writerWords}
@@ -40,6 +41,10 @@ checkAnswer file = given totalsWords (checkOf file)
 -- count
 abbrev pub indexAnswer : List ℕ → List ℕ → Answer (List ℕ)
 indexAnswer file table = given single (buildOf file table .answer)
+
+-- lines
+abbrev pub pageAnswer : List ℕ → List ℕ → Answer (List ℕ)
+pageAnswer table page = given single (printOf table page .answer)
 
 -- the prelude's fields
 abbrev pub parseAnswer : List ℕ → Bool → Answer (List ℕ)

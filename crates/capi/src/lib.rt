@@ -9,6 +9,8 @@ use duration::AmvDuration;
 use error::AmvResult;
 use finished::CheckResult;
 use finished::check;
+use page::PageResult;
+use page::print_index;
 use prelude::prelude::AmvPrelude;
 use prelude::prelude::AmvPreludeResult;
 use seek::SeekResult;
@@ -31,9 +33,10 @@ ghost use Rattle.chunk.specs.Interleave.{interleave};
 ghost use Rattle.duration.specs.Duration.{packedOf, runLength};
 ghost use Rattle.prelude.specs.Prelude.{saidPrelude, parseOf, strictOf};
 ghost use Rattle.chunk_index.specs.Index.{buildOf};
+ghost use Rattle.page.specs.Page.{printOf};
 ghost use Rattle.muxer.specs.Writer.{headerCall, packetCall, trailerCall};
 ghost use Rattle.words.specs.Out.{OutSays, checked};
-ghost use Rattle.capi.specs.Calls.{summaryAnswer, checkAnswer, indexAnswer, parseAnswer};
+ghost use Rattle.capi.specs.Calls.{summaryAnswer, checkAnswer, indexAnswer, pageAnswer, parseAnswer};
 ghost use Rattle.capi.specs.Calls.{WalkerCall, nextAnswer, nextWalker, seekAnswer, seekWalker, WriterCall};
 
 // The number of a call whose state's words are not all in their fields' ranges.
@@ -108,6 +111,24 @@ pub extern "C" fn amv_build_chunk_index(file: &[u8], table: &mut [u8], out: &mut
             0
         }
         IndexResult::Err(e) => {
+            *out = [e.place(), 0];
+            e.number()
+        }
+    }
+}
+
+// The page of an index for the strip printer: a line of 40 columns for each record; gives the number of lines. Refuses with 41, 43, 70 and 40.
+#[no_mangle]
+pub extern "C" fn amv_print_index(table: &[u8], page: &mut [u8], out: &mut [u64; 2]) -> u32
+    ensures { λ r. ⌜ OutSays 2 (pageAnswer (now (table .entry)) (now (page .entry))) r (now (out .exit)) ⌝ }
+    ensures { λ _. ⌜ now (page .exit) ≡ printOf (now (table .entry)) (now (page .entry)) .page ⌝ }
+{
+    match print_index(table, page) {
+        PageResult::Ok(lines) => {
+            *out = [0, lines as u64];
+            0
+        }
+        PageResult::Err(e) => {
             *out = [e.place(), 0];
             e.number()
         }

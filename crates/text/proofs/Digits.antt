@@ -4,7 +4,7 @@ use mathlib.Core.Path.{_≡_, refl, sym, ap, _∙_}
 use mathlib.Core.List.{List, [], _∷_, _++_, append-assoc, append-nil}
 use Prim.Native.Nat.{ℕ, zero, suc, _+_, _-_, _*_, _^_, _/_, _%_, _≤_, _<_}
 use native.Mathlib.Decide.{decLe}
-use native.Mathlib.Nat.{pow-succ'}
+use native.Mathlib.Nat.{pow-succ', one-le-pow}
 use native.Mathlib.Omega.{arith}
 use borrow.Author.Tests.{lt-ltb, le-ltb}
 use lib.ListN.{length, getD, set, length-append}
@@ -120,6 +120,18 @@ digits-fit (suc k) (suc w) n h =
       | yes l ↦ rw (long k n (omega arith), length-append) (omega (arith, digits-fit k w (n / 10) (tenth (suc w) n h)))
       | no l ↦ rw (short k n (omega arith)) (omega arith)
     ]
+
+digits-many : (k w n : ℕ) → n < 10 ^ k → 10 ^ w ≤ n → w < length (digits k n)
+unfolding digits
+digits-many zero w n h p = absurd (omega (arith, one-le-pow w 10 (omega arith)))
+digits-many (suc k) zero n h p = digits-some k n
+digits-many (suc k) (suc w) n h p =
+    let t : 10 ^ suc w ≡ 10 * 10 ^ w = pow-succ' 10 w in
+    let o : 1 ≤ 10 ^ w = one-le-pow w 10 (omega arith) in
+    rw (long k n (omega arith), length-append) (omega (arith, digits-many k w (n / 10) (tenth k n h) (omega arith)))
+
+pub decimal-many : (w n : ℕ) → n < 18446744073709551616 → 10 ^ w ≤ n → w < length (decimal n)
+decimal-many w n h p = digits-many 20 w n (omega arith) p
 
 pub decimal-fit : (w n : ℕ) → n < 10 ^ suc w → length (decimal n) ≤ suc w
 decimal-fit w n h = digits-fit 20 w n h

@@ -1,0 +1,62 @@
+-- 02's sentences about the page, a second time: by what is read from it. Assumes nothing.
+use mathlib.Core.Path.{_≡_}
+use Prim.Native.Nat.{ℕ, _*_, _≤_, _<_}
+use mathlib.Core.Bool.{true, false}
+use mathlib.Core.List.{List, [], _∷_, map}
+use mathlib.Core.Option.{some}
+use lib.ListN.{length, take, drop, getD}
+use Rattle.error.specs.Answer.{accepted, refused, numbered}
+use Rattle.error.specs.Sentences.{GivesBack, RefusedBy}
+use Rattle.fields.specs.Le.{Bytes}
+use Rattle.chunk_index.specs.Entry.{entriesOf}
+use Rattle.chunk_index.specs.declared.entry.ChunkIndexEntry.{ChunkIndexEntry}
+use Rattle.table.specs.Sentences.{FirstNo}
+use Rattle.page.specs.Page.{narrowSamples, printOf}
+use Rattle.page.specs.Reading.{Shown, readLine, linesOf}
+
+-- each of some lines
+abbrev pub Each : {A : Type 0} → (A → Type 0) → List A → Type 0
+Each P [] = Unit
+Each P (x ∷ xs) = P x × Each P xs
+
+-- a character of ASCII that a printer shows: from the space to `~`
+abbrev pub Printable : ℕ → Type 0
+Printable c = (32 ≤ c) × (c ≤ 126)
+
+-- a line for the strip printer
+pub record GoodLine (line : List ℕ) : Type 0 where
+  pub columns : length line ≡ 40
+  pub printable : Each Printable line
+  -- "column 22 stays blank"
+  pub blank : getD line 21 0 ≡ 32
+
+-- what a record's line is to show
+abbrev pub shownOf : ChunkIndexEntry → Shown
+shownOf e = record { tag = some (e .tag); offset = e .position .cursor; frames = e .position .frames .0; samples = e .position .samples .0 }
+
+-- of every table of bytes, as a lent one is
+pub record PageSentences : Type 0 where
+  -- "The answer is the line count": a line for each record, all of them within the page
+  pub count : (table page : List ℕ) (n : ℕ) → printOf table page .answer ≡ accepted n → (n ≡ length (entriesOf table)) × (40 * n ≤ length page)
+  -- "lines of exactly 40 columns"
+  pub lines : (table page : List ℕ) (n : ℕ) → Bytes table → printOf table page .answer ≡ accepted n
+      → Each GoodLine (linesOf n (printOf table page .page))
+  -- "reading the columns yields the record's kind, offset, frames and samples"
+  pub reads-back : (table page : List ℕ) (n : ℕ) → Bytes table → printOf table page .answer ≡ accepted n
+      → map readLine (linesOf n (printOf table page .page)) ≡ map shownOf (entriesOf table)
+  -- so tables whose pages are the same agree in these
+  pub tells-apart : (table page table′ page′ : List ℕ) (n n′ : ℕ) → Bytes table → Bytes table′ → printOf table page .answer ≡ accepted n
+      → printOf table′ page′ .answer ≡ accepted n′ → take (40 * n) (printOf table page .page) ≡ take (40 * n′) (printOf table′ page′ .page)
+      → map shownOf (entriesOf table) ≡ map shownOf (entriesOf table′)
+  -- "later bytes stay"
+  pub later : (table page : List ℕ) (n : ℕ) → Bytes table → printOf table page .answer ≡ accepted n
+      → drop (40 * n) (printOf table page .page) ≡ drop (40 * n) page
+  -- "a sample count needs more than 18 digits" exactly from 10^18 on
+  pub wide : (e : ChunkIndexEntry) → 1000000000000000000 ≤ e .position .samples .0 → e .position .samples .0 < 18446744073709551616
+      → narrowSamples e ≡ false
+  pub narrow : (e : ChunkIndexEntry) → e .position .samples .0 < 1000000000000000000 → narrowSamples e ≡ true
+  -- "place of the first such record"
+  pub seventy : (table page : List ℕ) (at : ℕ) → printOf table page .answer ≡ refused (numbered 70 at) → FirstNo narrowSamples (entriesOf table) at
+  -- "It returns the state it was given and changes no lent byte", and the numbers that 02 lists
+  pub gives-back : (table : List ℕ) → GivesBack (λ page. printOf table page .answer) (λ page. printOf table page .page)
+  pub numbers : (table page : List ℕ) → RefusedBy (41 ∷ 43 ∷ 70 ∷ 40 ∷ []) (printOf table page .answer)
