@@ -49,7 +49,7 @@ entry-fits table at b n =
 
 -- ---- a line
 
-length-kind : (e : ChunkIndexEntry) → length (kind (eqb (e .tag) videoTag)) ≡ 1
+pub length-kind : (e : ChunkIndexEntry) → length (kind (eqb (e .tag) videoTag)) ≡ 1
 length-kind e = go (eqb (e .tag) videoTag)
   where
     go : (b : Bool) → length (kind b) ≡ 1
