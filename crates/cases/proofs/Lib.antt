@@ -3,4 +3,5 @@ pub mod Numbers
 pub mod Orders
 pub mod Built
 pub mod Listed
+pub mod Pages
 pub mod Words

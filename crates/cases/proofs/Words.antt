@@ -17,6 +17,8 @@ use Rattle.chunk_index.specs.Entry.{entryBytes, tableBytes, entryAt, entriesFro
 use Rattle.chunk_index.specs.Index.{records, tagsKnown, indexOf, buildOf}
 use Rattle.chunk_index.specs.Summary.{countsFrom, summaryOf}
 use Rattle.table.specs.Table.{askEach}
+use Rattle.text.specs.Text.{digits, right}
+use Rattle.page.specs.Page.{pageLine, pageLines, pageQuestions, printOf}
 use Rattle.seek.specs.Seek.{seekQuestions, find, pastLast, seekOf}
 use Rattle.finished.specs.Check.{tagsOf, checkFrom, checkOf}
 use Rattle.words.specs.State.{walkerLegal, settingsLegal, writerLegal}
@@ -28,7 +30,7 @@ pub words : Words
 unfolding le leBytes put interleaveFrom headerFields headerSentinels cbSizeOf waveFormatFields waveFormatSentinels preambleOf preludeBytes layout askWord
     askBody askItems preludeFields parseOf zeros zeroRanges validatedOf strictOf headAt countOf inRange readFrame readSound readChunk readOf stepAt walkFor walk
     chunkBytes chunksBytes entryBytes tableBytes entryAt entriesFrom records tagsKnown indexOf buildOf countsFrom summaryOf askEach seekQuestions find
-    pastLast seekOf tagsOf checkFrom checkOf walkerLegal settingsLegal writerLegal E P T
+    pastLast seekOf digits right pageLine pageLines pageQuestions printOf tagsOf checkFrom checkOf walkerLegal settingsLegal writerLegal E P T
 words =
     record {
       walker = refl;
@@ -39,6 +41,7 @@ words =
       end = refl;
       seek = refl;
       index = refl;
+      page = refl;
       summary = refl;
       check = refl;
       check-paired = refl;

@@ -1,8 +1,9 @@
--- Document 01's cases, and others for every number: docs/FORMAT.md, section 14 has the numbers.
+-- The cases of documents 01 and 02, and others for every number: docs/FORMAT.md, section 14 has the numbers.
 pub mod Example
 pub mod Cases
 pub mod Numbers
 pub mod Orders
 pub mod Built
 pub mod Listed
+pub mod Pages
 pub mod Words

@@ -10,7 +10,7 @@ use Rattle.fields.specs.Le.{put}
 use Rattle.prelude.specs.Built.{preludeBytes}
 use Rattle.demuxer.specs.declared.walker.Trailer.the-variants.{At, NotMet}
 use Rattle.words.specs.State.{walkerOf, walkerWords, writerOf, writerWords}
-use Rattle.capi.specs.Calls.{parseAnswer, nextAnswer, seekAnswer, indexAnswer, summaryAnswer, checkAnswer}
+use Rattle.capi.specs.Calls.{parseAnswer, nextAnswer, seekAnswer, indexAnswer, pageAnswer, summaryAnswer, checkAnswer}
 use Rattle.cases.specs.Cases.{position, ownIndex}
 use Rattle.cases.specs.Example.{E}
 use Rattle.cases.specs.Numbers.{walkerAt, T}
@@ -50,6 +50,8 @@ pub record Words : Type 0 where
   -- "place, stamp", "place, count"
   pub seek : seekAnswer ownIndex 0 (pos 1) (walkerAt 316 0 0 0) ≡ accepted (1 ∷ [])
   pub index : indexAnswer E (replicate 48 0) ≡ accepted (2 ∷ [])
+  -- "place, lines"
+  pub page : pageAnswer ownIndex (replicate 80 0) ≡ accepted (2 ∷ [])
   -- "place, frames, blocks" and "place, frames, blocks, samples, trailer, paired"
   pub summary : summaryAnswer T ≡ accepted (2 ∷ 1 ∷ [])
   pub check : checkAnswer T ≡ accepted (2 ∷ 1 ∷ 5 ∷ 351 ∷ 0 ∷ [])

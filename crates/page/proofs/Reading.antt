@@ -1,5 +1,5 @@
 -- A line is read back: spaces add nothing, digits are worth the number, and each field stands in its columns. Assumes nothing.
-use mathlib.Core.Path.{_≡_, refl, sym, ap, _∙_}
+use mathlib.Core.Path.{_≡_, refl, sym, ap, _∙_, subst}
 use mathlib.Core.Bool.{Bool, true, false, cond, _&&_, _||_}
 use mathlib.Core.List.{List, [], _∷_, _++_, map, append-assoc}
 use mathlib.Core.Option.{some}
@@ -15,11 +15,11 @@ use Rattle.demuxer.specs.Position.{countLimit}
 use Rattle.chunk_index.specs.declared.entry.ChunkIndexEntry.{ChunkIndexEntry}
 use Rattle.table.specs.Table.{goodEntry}
 use Rattle.text.specs.Text.{digits, decimal, kind, spaces, right}
-use Rattle.text.proofs.Digits.{worth, Digits, digits-digits, decimal-worth}
+use Rattle.text.proofs.Digits.{worth, Digits, digits-digits, decimal-worth, decimal-head, decimal-zero}
 use Rattle.text.proofs.Laws.{length-right}
 use Rattle.page.specs.Page.{columns, pageLine, pageLines}
 use Rattle.page.specs.Reading.{fromTo, numberIn, tagIn, Shown, readLine, linesOf}
-use Rattle.page.specs.Sentences.{Each, Printable, GoodLine, shownOf}
+use Rattle.page.specs.Sentences.{Each, Printable, GoodLine, RightAligned, Aligned, AllAligned, shownOf}
 use Rattle.page.specs.Steps.{Fits}
 use Rattle.page.proofs.Lines.{Narrow, narrow, length-kind, length-line}
 
@@ -40,6 +40,26 @@ pub number-right : (width n : ℕ) → n < 18446744073709551616 → numberIn 0 (
 unfolding right
 number-right width n h =
     number-spaces 0 (width - length (decimal n)) (decimal n) ∙ number-digits 0 (decimal n) (digits-digits 20 n) ∙ decimal-worth n h
+
+-- ---- right-aligned
+
+digits-each : (ds : List ℕ) → Digits ds → Each (λ c. (48 ≤ c) × (c ≤ 57)) ds
+unfolding Digits
+digits-each [] h = tt
+digits-each (d ∷ ds) h = ((h .0, h .1), digits-each ds (h .2))
+
+right-aligned : (width n : ℕ) → n < 18446744073709551616 → RightAligned (right width n) n
+unfolding right
+right-aligned width n h =
+    record {
+      blanks = width - length (decimal n);
+      digits = decimal n;
+      is = refl;
+      each = digits-each (decimal n) (digits-digits 20 n);
+      worth = number-digits 0 (decimal n) (digits-digits 20 n) ∙ decimal-worth n h;
+      zero = λ e. ap decimal e ∙ decimal-zero;
+      leading = decimal-head n h;
+    }
 
 -- ---- printable characters
 
@@ -159,6 +179,24 @@ module _ (e : ChunkIndexEntry) (l : Lined e) where
       ∙ number-right 19 (e .position .samples .0) (omega (arith, l .fits .samples-narrow)) in
       λ i. record { tag = t i; offset = o i; frames = f i; samples = s i }
 
+  pub aligned : Aligned (pageLine e) e
+  unfolding pageLine
+  aligned =
+      record {
+        offset =
+            subst (λ (cs : List ℕ). RightAligned cs (e .position .cursor))
+            (sym (in-eleven letter offset frames samples (length-kind e) length-offset length-frames length-samples))
+            (right-aligned 10 (e .position .cursor) (omega (arith, l .fits .small .cursor-small)));
+        frames =
+            subst (λ (cs : List ℕ). RightAligned cs (e .position .frames .0))
+            (sym (in-twenty-one letter offset frames samples (length-kind e) length-offset length-frames length-samples))
+            (right-aligned 10 (e .position .frames .0) (omega (arith, l .fits .small .frames-small)));
+        samples =
+            subst (λ (cs : List ℕ). RightAligned cs (e .position .samples .0))
+            (sym (in-forty letter offset frames samples (length-kind e) length-offset length-frames length-samples))
+            (right-aligned 19 (e .position .samples .0) (omega (arith, l .fits .samples-narrow)));
+      }
+
   pub good-line : GoodLine (pageLine e)
   unfolding pageLine
   good-line =
@@ -195,6 +233,10 @@ lines-back (e ∷ es) h rest =
 pub all-read : (es : List ChunkIndexEntry) → Each Lined es → map readLine (map pageLine es) ≡ map shownOf es
 all-read [] h = refl
 all-read (e ∷ es) h = rw (read-back e (h .0)) (ap (λ (ss : List Shown). shownOf e ∷ ss) (all-read es (h .1)))
+
+pub all-aligned : (es : List ChunkIndexEntry) → Each Lined es → AllAligned (map pageLine es) es
+all-aligned [] h = tt
+all-aligned (e ∷ es) h = (aligned e (h .0), all-aligned es (h .1))
 
 pub all-good : (es : List ChunkIndexEntry) → Each Lined es → Each GoodLine (map pageLine es)
 all-good [] h = tt

@@ -23,9 +23,9 @@ use Rattle.table.specs.Sentences.{AllPass, FirstNo}
 use Rattle.table.proofs.Sentences.{whole-by, each-by, each-sentences}
 use Rattle.page.specs.Page.{columns, narrowSamples, pageLine, pageLines, pageQuestions, printedFrom, printOf}
 use Rattle.page.specs.Reading.{Shown, readLine, linesOf}
-use Rattle.page.specs.Sentences.{Each, GoodLine, shownOf, PageSentences}
+use Rattle.page.specs.Sentences.{Each, GoodLine, AllAligned, shownOf, PageSentences}
 use Rattle.page.proofs.Lines.{narrow-below, narrow-above, entry-fits, Passed, questions-passed}
-use Rattle.page.proofs.Reading.{Lined, length-lines, lines-back, all-read, all-good}
+use Rattle.page.proofs.Reading.{Lined, length-lines, lines-back, all-read, all-aligned, all-good}
 
 -- ---- an accepted page
 
@@ -90,6 +90,9 @@ module _ (table page : List ℕ) (n : ℕ) (b : Bytes table) (h : printOf table 
 
   lines : Each GoodLine (linesOf n (printOf table page .page))
   lines = rw its-lines (all-good es all-lined)
+
+  aligned : AllAligned (linesOf n (printOf table page .page)) es
+  aligned = rw its-lines (all-aligned es all-lined)
 
   later : drop (40 * n) (printOf table page .page) ≡ drop (40 * n) page
   later =
@@ -185,6 +188,7 @@ page-sentences =
     record {
       count = λ table page n h. let a = accept table page n h in (a .lines, omega (arith, a .lines, a .passed .fits));
       lines = lines;
+      aligned = aligned;
       reads-back = reads-back;
       tells-apart = tells-apart;
       later = later;

@@ -2,9 +2,9 @@
 use mathlib.Core.Path.{_≡_}
 use Prim.Native.Nat.{ℕ, _*_, _≤_, _<_}
 use mathlib.Core.Bool.{true, false}
-use mathlib.Core.List.{List, [], _∷_, map}
+use mathlib.Core.List.{List, [], _∷_, _++_, map}
 use mathlib.Core.Option.{some}
-use lib.ListN.{length, take, drop, getD}
+use lib.ListN.{length, take, drop, getD, replicate}
 use Rattle.error.specs.Answer.{accepted, refused, numbered}
 use Rattle.error.specs.Sentences.{GivesBack, RefusedBy}
 use Rattle.fields.specs.Le.{Bytes}
@@ -12,7 +12,7 @@ use Rattle.chunk_index.specs.Entry.{entriesOf}
 use Rattle.chunk_index.specs.declared.entry.ChunkIndexEntry.{ChunkIndexEntry}
 use Rattle.table.specs.Sentences.{FirstNo}
 use Rattle.page.specs.Page.{narrowSamples, printOf}
-use Rattle.page.specs.Reading.{Shown, readLine, linesOf}
+use Rattle.page.specs.Reading.{fromTo, numberIn, Shown, readLine, linesOf}
 
 -- each of some lines
 abbrev pub Each : {A : Type 0} → (A → Type 0) → List A → Type 0
@@ -30,6 +30,29 @@ pub record GoodLine (line : List ℕ) : Type 0 where
   -- "column 22 stays blank"
   pub blank : getD line 21 0 ≡ 32
 
+-- "right-aligned with spaces": blanks, then the digits of a number, without leading zeros
+pub record RightAligned (field : List ℕ) (n : ℕ) : Type 0 where
+  pub blanks : ℕ
+  pub digits : List ℕ
+  pub is : field ≡ replicate blanks 32 ++ digits
+  pub each : Each (λ c. (48 ≤ c) × (c ≤ 57)) digits
+  pub worth : numberIn 0 digits ≡ n
+  pub zero : n ≡ 0 → digits ≡ 48 ∷ []
+  pub leading : 0 < n → 48 < getD digits 0 0
+
+-- a record's line, field by field
+pub record Aligned (line : List ℕ) (e : ChunkIndexEntry) : Type 0 where
+  pub offset : RightAligned (fromTo 2 11 line) (e .position .cursor)
+  pub frames : RightAligned (fromTo 12 21 line) (e .position .frames .0)
+  pub samples : RightAligned (fromTo 22 40 line) (e .position .samples .0)
+
+-- as many lines as records, each of its own
+abbrev pub AllAligned : List (List ℕ) → List ChunkIndexEntry → Type 0
+AllAligned [] [] = Unit
+AllAligned [] (e ∷ es) = ⊥
+AllAligned (line ∷ lines) [] = ⊥
+AllAligned (line ∷ lines) (e ∷ es) = Aligned line e × AllAligned lines es
+
 -- what a record's line is to show
 abbrev pub shownOf : ChunkIndexEntry → Shown
 shownOf e = record { tag = some (e .tag); offset = e .position .cursor; frames = e .position .frames .0; samples = e .position .samples .0 }
@@ -41,6 +64,9 @@ pub record PageSentences : Type 0 where
   -- "lines of exactly 40 columns"
   pub lines : (table page : List ℕ) (n : ℕ) → Bytes table → printOf table page .answer ≡ accepted n
       → Each GoodLine (linesOf n (printOf table page .page))
+  -- "right-aligned with spaces"
+  pub aligned : (table page : List ℕ) (n : ℕ) → Bytes table → printOf table page .answer ≡ accepted n
+      → AllAligned (linesOf n (printOf table page .page)) (entriesOf table)
   -- "reading the columns yields the record's kind, offset, frames and samples"
   pub reads-back : (table page : List ℕ) (n : ℕ) → Bytes table → printOf table page .answer ≡ accepted n
       → map readLine (linesOf n (printOf table page .page)) ≡ map shownOf (entriesOf table)

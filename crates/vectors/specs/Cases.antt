@@ -8,6 +8,7 @@ use lib.IntN.{ℤ, pos, negsuc}
 use lib.ListN.{length, getD}
 use Rattle.fields.specs.Le.{le}
 use Rattle.chunk_index.specs.Index.{buildOf}
+use Rattle.page.specs.Page.{printOf}
 use Rattle.muxer.specs.Writer.{headerCall, packetCall, trailerCall}
 use Rattle.capi.specs.Calls.{bufferAfterCall}
 use Rattle.vectors.specs.declared.case.CaseAt.{CaseAt}
@@ -52,10 +53,10 @@ tagsIn bytes (suc n) = tagsIn bytes n ++ (le 4 bytes (4 * n) ∷ [])
 abbrev pub streamIn : List ℕ → ℕ
 streamIn head = getD head 0 0 % 4294967296
 
--- the lent bytes after a case's call: a table, or a writer's buffer
+-- the lent bytes after a case's call: a table, a page, or a writer's buffer
 abbrev pub lentAfter : ℕ → List ℕ → List ℕ → List ℕ → List ℕ
 lentAfter function bytes head lent =
     cond (eqb function 3) (buildOf bytes lent .table)
     (cond (eqb function 4) (bufferAfterCall (λ w. headerCall w lent) (writerIn head) lent)
     (cond (eqb function 5) (bufferAfterCall (λ w. packetCall w bytes (streamIn head) lent) (writerIn head) lent)
-    (bufferAfterCall (λ w. trailerCall w lent) (writerIn head) lent)))
+    (cond (eqb function 13) (printOf bytes lent .page) (bufferAfterCall (λ w. trailerCall w lent) (writerIn head) lent))))

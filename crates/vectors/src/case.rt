@@ -25,7 +25,7 @@ impl Functions {
     // A packet.
     pub const WRITE_PACKET: usize = 5;
 
-    // A writer's last call, and the last of those that write to lent bytes.
+    // A writer's last call.
     pub const WRITE_TRAILER: usize = 6;
 
     // A jump by an index.
@@ -37,7 +37,7 @@ impl Functions {
     // A packed run length.
     pub const FROM_FRAME_COUNT: usize = 9;
 
-    // The counts of a file. From here on a case is a whole file and nothing else.
+    // The counts of a file. From here to the listing a case is a whole file and nothing else.
     pub const SUMMARY: usize = 10;
 
     // The check of a file.
@@ -46,14 +46,17 @@ impl Functions {
     // The listing of a file.
     pub const LISTING: usize = 12;
 
+    // The page of an index, again a call that writes to lent bytes.
+    pub const PRINT_INDEX: usize = 13;
+
     // One more than the last number, for a table of counts by function.
-    pub const COUNT: usize = 13;
+    pub const COUNT: usize = 14;
 }
 
 // The function of a case's first byte. Refuses none: a case of no function is run as the first, so that no case is passed over.
 pub fn function_of(byte: u8) -> usize
-    ensures { λ r. ⌜ r ≡ cond (ltb byte 13) byte 1 ⌝ }
-    ensures { λ r. ⌜ r < 13 ⌝ }
+    ensures { λ r. ⌜ r ≡ cond (ltb byte 14) byte 1 ⌝ }
+    ensures { λ r. ⌜ r < 14 ⌝ }
 {
     if (byte as usize) < Functions::COUNT {
         byte as usize

@@ -1,5 +1,5 @@
 // Replays stored calls and prints what the library answers. The stored output is what the Rust original answered, and for what it does
-// not have, what document 01 fixes.
+// not have, what documents 01 and 02 fix.
 mod case;
 mod print;
 mod run;
@@ -29,6 +29,7 @@ fn print_counts(counts: [u64; Functions::COUNT]) {
     print_count(b"summary", counts[Functions::SUMMARY]);
     print_count(b"check", counts[Functions::CHECK]);
     print_count(b"listing", counts[Functions::LISTING]);
+    print_count(b"print_index", counts[Functions::PRINT_INDEX]);
 }
 
 // Every case in turn, then how many there were of each function.

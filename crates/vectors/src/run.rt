@@ -13,10 +13,13 @@ use crate::print::print_end;
 use listing::ROOM;
 use listing::list;
 ghost use mathlib.Core.Path.{_≡_};
+ghost use mathlib.Core.Bool.{_&&_, _||_};
 ghost use Prim.Native.Nat.{_/_, min};
+ghost use lib.Dec.{leb, eqb};
 ghost use lib.ListN.{length, take};
 ghost use Rattle.fields.specs.Le.{put};
 ghost use Rattle.chunk_index.specs.Index.{buildOf};
+ghost use Rattle.page.specs.Page.{printOf};
 ghost use Rattle.muxer.specs.Writer.{headerCall, packetCall, trailerCall};
 ghost use Rattle.capi.specs.Calls.{bufferAfterCall};
 ghost use Rattle.vectors.specs.Cases.{requestOf, tagsIn, walkerIn, writerIn, streamIn, lentAfter};
@@ -142,6 +145,17 @@ fn run_build_chunk_index(file: &[u8], table: &mut [u8])
     print_end();
 }
 
+fn run_print_index(table: &[u8], page: &mut [u8])
+    ensures { λ _. ⌜ now (page .exit) ≡ printOf (now (table .entry)) (now (page .entry)) .page ⌝ }
+{
+    let mut out = [0u64; 2];
+    let number = capi::amv_print_index(table, page, &mut out);
+    print_call(b"print_index", number);
+    print_2(out);
+    print_bytes(page);
+    print_end();
+}
+
 fn writer_of(head: [u64; 12]) -> [u64; 9]
     ensures { λ r. ⌜ r ≡ writerIn head ⌝ }
 {
@@ -260,18 +274,29 @@ fn run_writing(function: usize, bytes: &[u8], lent: &mut [u8], head: [u64; 12])
         run_write_header(head, lent);
     } else if function == Functions::WRITE_PACKET {
         run_write_packet(head, lent, bytes);
+    } else if function == Functions::PRINT_INDEX {
+        run_print_index(bytes, lent);
     } else {
         run_write_trailer(head, lent);
     }
 }
 
+// Whether a function is one of those that write to lent bytes.
+fn writes(function: usize) -> bool
+    ensures { λ r. ⌜ r ≡ (eqb function 13 || (leb 3 function && leb function 6)) ⌝ }
+{
+    if function == Functions::PRINT_INDEX {
+        return true;
+    }
+    if function < Functions::BUILD_CHUNK_INDEX {
+        return false;
+    }
+    function <= Functions::WRITE_TRAILER
+}
+
 // Runs the call of a case and prints its answer; refusals are answers, and are printed. A case of a call that writes has the lent bytes second.
 pub fn run_case(function: usize, first: &[u8], second: &[u8], head: [u64; 12]) {
-    if function < Functions::BUILD_CHUNK_INDEX {
-        run_reading(function, first, head);
-        return;
-    }
-    if function > Functions::WRITE_TRAILER {
+    if !writes(function) {
         run_reading(function, first, head);
         return;
     }

@@ -8,17 +8,14 @@ use borrow.Author.Needs.{needs}
 use Rattle.vectors.proofs.run.run_case.Statement.{statement}
 use Rattle.vectors.proofs.run.run_case.Tie as tie
 
+writes-requires : tie.Need-writes-requires
+writes-requires c κs = search needs
+
 run-reading-requires : tie.Need-run-reading-requires
 run-reading-requires c κs = search needs
 
 returns : tie.Need-returns
 returns c = search needs
-
-run-reading-requires-2 : tie.Need-run-reading-requires-2
-run-reading-requires-2 c κs = search needs
-
-returns-2 : tie.Need-returns-2
-returns-2 c = search needs
 
 slice-aggregate-load : tie.Need-slice-aggregate-load
 slice-aggregate-load c = search needs
@@ -35,20 +32,19 @@ slice-aggregate-run-writing c = sym (length-take-le _ _ (omega arith))
 run-writing-requires : tie.Need-run-writing-requires
 run-writing-requires c κs = search needs
 
-returns-3 : tie.Need-returns-3
-returns-3 c = search needs
+returns-2 : tie.Need-returns-2
+returns-2 c = search needs
 
 pub run-case-spec : {M : Type 1} → statement M
 run-case-spec =
     tie.close
     (tie.spec
+    writes-requires
     run-reading-requires
     returns
-    run-reading-requires-2
-    returns-2
     slice-aggregate-load
     load-requires
     array-borrow-prefix-bytes
     slice-aggregate-run-writing
     run-writing-requires
-    returns-3)
+    returns-2)

@@ -15,6 +15,9 @@ run-write-header-requires c κs = search needs
 run-write-packet-requires : tie.Need-run-write-packet-requires
 run-write-packet-requires c κs = search needs
 
+run-print-index-requires : tie.Need-run-print-index-requires
+run-print-index-requires c κs = search needs
+
 run-write-trailer-requires : tie.Need-run-write-trailer-requires
 run-write-trailer-requires c κs = search needs
 
@@ -45,7 +48,27 @@ same-length-4 c = search needs
 returns-4 : tie.Need-returns-4
 returns-4 c =
     let t = c .before .before .before .before in
-    rw (ne-eqb _ _ (t .before .before .if1 .left), ne-eqb _ _ (t .before .if2 .left), ne-eqb _ _ (t .if3 .left)) (c .before .before .run-write-trailer .ensures)
+    rw (
+      ne-eqb _ _ (t .before .before .before .if1 .left),
+      ne-eqb _ _ (t .before .before .if2 .left),
+      ne-eqb _ _ (t .before .if3 .left),
+      eq-eqb _ _ (t .if4 .taken),
+    )
+    (c .before .before .run-print-index .ensures)
+
+same-length-5 : tie.Need-same-length-5
+same-length-5 c = search needs
+
+returns-5 : tie.Need-returns-5
+returns-5 c =
+    let t = c .before .before .before .before in
+    rw (
+      ne-eqb _ _ (t .before .before .before .if1 .left),
+      ne-eqb _ _ (t .before .before .if2 .left),
+      ne-eqb _ _ (t .before .if3 .left),
+      ne-eqb _ _ (t .if4 .left),
+    )
+    (c .before .before .run-write-trailer .ensures)
 
 pub run-writing-spec : {M : Type 1} → statement M
 run-writing-spec =
@@ -54,6 +77,7 @@ run-writing-spec =
     run-build-chunk-index-requires
     run-write-header-requires
     run-write-packet-requires
+    run-print-index-requires
     run-write-trailer-requires
     same-length
     returns
@@ -62,4 +86,6 @@ run-writing-spec =
     same-length-3
     returns-3
     same-length-4
-    returns-4)
+    returns-4
+    same-length-5
+    returns-5)
