@@ -59,8 +59,9 @@ enum-told c = search needs
 returns-2 : tie.Need-returns-2
 returns-2 c =
     let s = c .before .before .before in
-    rw (asked-before s, sym (s .ask-samples .ensures) ∙ ap said (c .before .enum-told .given .1))
-    (rw (lt-leb _ _ (no-room (s .before .before .before .before .before .before .args .table .now) (c .if1 .taken))))
+    let a = s .before .before .before .before .before .before .args in
+    let few : a .room < columns * length (entriesOf (a .table .now)) = no-room (a .table .now) (c .if1 .taken) in
+    rw (asked-before s, sym (s .ask-samples .ensures) ∙ ap said (c .before .enum-told .given .1)) (rw (lt-leb _ _ few))
 
 returns-3 : tie.Need-returns-3
 unfolding pageQuestions
@@ -69,8 +70,9 @@ returns-3 c = rw (table-err _ (c .before .before .before .ask-table .ensures) (c
 returns-4 : tie.Need-returns-4
 returns-4 c =
     let s = c .before .before .before in
-    rw (asked-before s, sym (s .ask-samples .ensures) ∙ ap said (c .before .enum-told .given .1))
-    (rw (le-leb _ _ (has-room (s .before .before .before .before .before .before .args .table .now) (c .if1 .left))))
+    let a = s .before .before .before .before .before .before .args in
+    let enough : columns * length (entriesOf (a .table .now)) ≤ a .room = has-room (a .table .now) (c .if1 .left) in
+    rw (asked-before s, sym (s .ask-samples .ensures) ∙ ap said (c .before .enum-told .given .1)) (rw (le-leb _ _ enough))
 
 pub ask-page-spec : {M : Type 1} → statement M
 ask-page-spec =
