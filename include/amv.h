@@ -1,4 +1,4 @@
-/* AMV recordings: read, index, jump, check and write them.
+/* AMV recordings: read, index, jump, check and write them, and print the index.
  *
  * The functions of the proved library, for callers in C and C++. docs/FORMAT.md has the format, what each call gives for every argument, and
  * what is proved of whole lists of calls. Link libamv: ./build-library.sh makes target/lib/libamv.a and ./install.sh PREFIX installs it, for
@@ -34,8 +34,8 @@ extern "C" {
  * number while the first is 0, and an addition the third. */
 #define AMV_VERSION_MAJOR 0
 #define AMV_VERSION_MINOR 1
-#define AMV_VERSION_PATCH 0
-#define AMV_VERSION "0.1.0"
+#define AMV_VERSION_PATCH 1
+#define AMV_VERSION "0.1.1"
 
 /* A file's longest length in bytes; the bytes of a prelude, at whose end the first chunk stands. */
 #define AMV_FILE_LIMIT 4294967295
@@ -158,6 +158,23 @@ uint32_t amv_build_chunk_index(const uint8_t *file, size_t len, uint8_t *table, 
 enum { AMV_SEEK_STAMP = 1, AMV_SEEK_WORDS };
 uint32_t amv_seek_to_via_index(const uint8_t *table, size_t table_len, uint64_t walker[AMV_WALKER_WORDS], uint32_t stream, int64_t request, uint64_t out[AMV_SEEK_WORDS]);
 
+/* The page of an index for a strip printer: a line of AMV_PAGE_COLUMNS bytes of ASCII for each record, one after another, without line ends.
+ * Bytes after the last line stay as they are. The table is the records of amv_build_chunk_index and nothing after them, as for a jump. A page
+ * of table_len / AMV_ENTRY_LEN * AMV_PAGE_COLUMNS bytes is always enough. out: place, the number of lines. Refuses with 41, 43, 70 and 40.
+ *
+ * A line has in column 1 V for a picture or A for sound, in 2 to 11 the chunk's offset, in 12 to 21 the frames before it, in 22 to 40 the
+ * samples before it. A number is decimal, at the right of its columns, with spaces left of it; column 22 is always a space. Blocks are not
+ * printed. The names AMV_LINE_.. are where these columns start in a line, counted from 0; each end where the next start. */
+enum {
+    AMV_LINE_KIND = 0,
+    AMV_LINE_OFFSET = 1,
+    AMV_LINE_FRAMES = 11,
+    AMV_LINE_SAMPLES = 21,
+    AMV_PAGE_COLUMNS = 40
+};
+enum { AMV_PAGE_LINES = 1, AMV_PAGE_WORDS };
+uint32_t amv_print_index(const uint8_t *table, size_t table_len, uint8_t *page, size_t page_len, uint64_t out[AMV_PAGE_WORDS]);
+
 /* How many frames and blocks a file has, by its index walk: as many as its index has records of each kind. out: place, frames, blocks.
  * Refuses with 10 and 31. */
 enum { AMV_SUMMARY_FRAMES = 1, AMV_SUMMARY_BLOCKS, AMV_SUMMARY_WORDS };
@@ -232,7 +249,7 @@ uint32_t amv_from_frame_count(uint64_t frames, uint32_t fps);
     /* reads, index, jumps */ \
     ROW(31, AMV_ERROR_UNKNOWN_TAG, "Is the tag 00dc or 01wb, a picture's or sound's?", "the chunk's offset") \
     ROW(32, AMV_ERROR_STATE_OUT_OF_RANGE, "Are cursor, frames, samples and blocks each at most 2^62?", "0") \
-    ROW(40, AMV_ERROR_TABLE_TOO_SHORT, "Does the table hold all records?", "0") \
+    ROW(40, AMV_ERROR_TABLE_TOO_SHORT, "Does the table hold all records, or the page all lines?", "0") \
     ROW(41, AMV_ERROR_TABLE_RAGGED, "Is the table whole records of 24 bytes?", "0") \
     ROW(42, AMV_ERROR_NO_SUCH_STREAM, "Is the stream of the jump 0 or 1?", "0") \
     ROW(43, AMV_ERROR_BAD_RECORD, "Has the record a known tag, and fewer than 2^62 samples before it?", "the record's start in the table") \
@@ -251,7 +268,9 @@ uint32_t amv_from_frame_count(uint64_t frames, uint32_t fps);
     ROW(62, AMV_ERROR_VIDEO_AT_ODD_POSITION, "Does no picture stand at an odd position?", "its position") \
     ROW(63, AMV_ERROR_AUDIO_AT_EVEN_POSITION, "Does no sound stand at an even position?", "its position") \
     ROW(64, AMV_ERROR_OTHER_AT_POSITION, "Is every tag a picture's or sound's?", "its position") \
-    ROW(65, AMV_ERROR_ODD_CHUNK_COUNT, "Is the number of tags even?", "the number of tags")
+    ROW(65, AMV_ERROR_ODD_CHUNK_COUNT, "Is the number of tags even?", "the number of tags") \
+    /* the page */ \
+    ROW(70, AMV_ERROR_SAMPLES_TOO_WIDE, "Has the number of samples before the record at most 18 digits?", "the record's start in the table")
 
 #define AMV_NUMBER_OF(number, name, question, place) name = number,
 enum { AMV_REFUSALS(AMV_NUMBER_OF) };

@@ -1,7 +1,7 @@
 /*
- * Holds the names of include/amv.h against the library: every word of a state and of an out and every field of a record, on inputs in
- * which each has another value, the tags and streams, and some of the numbers. The numbers and texts of all refusals and the file limit are
- * held against the source by bindings/rust/tests/signatures.rs. Both C99 and C++11, so that the header is compiled as both.
+ * Holds the names of include/amv.h against the library: every word of a state and of an out and every field of a record and of a line, on
+ * inputs in which each has another value, the tags and streams, and some of the numbers. The numbers and texts of all refusals and the file
+ * limit are held against the source by bindings/rust/tests/signatures.rs. Both C99 and C++11, so that the header is compiled as both.
  */
 #include <stdio.h>
 #include <string.h>
@@ -169,6 +169,77 @@ static void index_and_jump(void)
     EXPECT(2, out[AMV_INDEX_COUNT]);
 }
 
+/* The number in the columns of a line from one to before another, after the spaces. */
+static uint64_t number_in(const uint8_t *line, int from, int to)
+{
+    uint64_t number = 0;
+    for (int i = from; i < to; i++)
+        if (line[i] != ' ')
+            number = 10 * number + (uint64_t)(line[i] - '0');
+    return number;
+}
+
+/* A page of three lines. */
+enum { FULL_PAGE = 3 * AMV_PAGE_COLUMNS };
+
+/* Prints a table to a page of that length, which is left as it was where the call is refused; a byte after it is always left. */
+static uint32_t print_to(uint8_t page[FULL_PAGE + 1], const uint8_t *table, size_t table_len, size_t page_len, uint64_t out[AMV_PAGE_WORDS])
+{
+    uint8_t before[FULL_PAGE + 1];
+    memset(before, '#', sizeof before);
+    memset(page, '#', sizeof before);
+    uint32_t number = amv_print_index(table, table_len, page, page_len, out);
+    EXPECT('#', page[page_len]);
+    if (number != AMV_OK) {
+        EXPECT(0, out[AMV_PAGE_LINES]);
+        EXPECT(0, memcmp(page, before, sizeof before));
+    }
+    return number;
+}
+
+static void print_index(void)
+{
+    uint8_t table[3 * AMV_ENTRY_LEN], page[FULL_PAGE + 1];
+    uint64_t indexed[AMV_INDEX_WORDS], out[AMV_PAGE_WORDS] = {7, 7};
+    const uint8_t *second = page + AMV_PAGE_COLUMNS, *last = second + AMV_PAGE_COLUMNS;
+    EXPECT(AMV_OK, amv_build_chunk_index(file, len, table, sizeof table, indexed));
+    EXPECT(AMV_OK, print_to(page, table, sizeof table, FULL_PAGE, out));
+    EXPECT(0, out[AMV_PLACE]);
+    EXPECT(3, out[AMV_PAGE_LINES]);
+    const char *lines = "A       316         0                  0"
+                        "V       334         0                  5"
+                        "A       345         1                  5";
+    EXPECT(0, memcmp(lines, page, FULL_PAGE));
+    EXPECT('V', second[AMV_LINE_KIND]);
+    EXPECT('A', last[AMV_LINE_KIND]);
+    EXPECT(345, number_in(last, AMV_LINE_OFFSET, AMV_LINE_FRAMES));
+    EXPECT(1, number_in(last, AMV_LINE_FRAMES, AMV_LINE_SAMPLES));
+    EXPECT(5, number_in(last, AMV_LINE_SAMPLES, AMV_PAGE_COLUMNS));
+    /* No records are no lines, and need no page. */
+    EXPECT(AMV_OK, amv_print_index(NULL, 0, NULL, 0, out));
+    EXPECT(0, out[AMV_PAGE_LINES]);
+    EXPECT(AMV_ERROR_TABLE_TOO_SHORT, print_to(page, table, sizeof table, FULL_PAGE - 1, out));
+    EXPECT(0, out[AMV_PLACE]);
+    EXPECT(AMV_ERROR_TABLE_RAGGED, print_to(page, table, sizeof table - 1, FULL_PAGE, out));
+    EXPECT(0, out[AMV_PLACE]);
+    /* The greatest numbers that a line shows: they fill their columns, but for column 22. */
+    put(table + AMV_ENTRY_LEN + AMV_ENTRY_OFFSET, 4294967295, 4);
+    put(table + AMV_ENTRY_LEN + AMV_ENTRY_FRAMES, 4294967294, 4);
+    put(table + AMV_ENTRY_LEN + AMV_ENTRY_SAMPLES, 999999999999999999, 8);
+    EXPECT(AMV_OK, print_to(page, table, sizeof table, FULL_PAGE, out));
+    EXPECT(4294967295, number_in(second, AMV_LINE_OFFSET, AMV_LINE_FRAMES));
+    EXPECT(4294967294, number_in(second, AMV_LINE_FRAMES, AMV_LINE_SAMPLES));
+    EXPECT(' ', second[AMV_LINE_SAMPLES]);
+    EXPECT(999999999999999999, number_in(second, AMV_LINE_SAMPLES, AMV_PAGE_COLUMNS));
+    /* A sample more comes before a page that is too short, and after a bad record anywhere. */
+    put(table + AMV_ENTRY_LEN + AMV_ENTRY_SAMPLES, 1000000000000000000, 8);
+    EXPECT(AMV_ERROR_SAMPLES_TOO_WIDE, print_to(page, table, sizeof table, FULL_PAGE - 1, out));
+    EXPECT(AMV_ENTRY_LEN, out[AMV_PLACE]);
+    table[2 * AMV_ENTRY_LEN + AMV_ENTRY_TAG] = 'X';
+    EXPECT(AMV_ERROR_BAD_RECORD, print_to(page, table, sizeof table, FULL_PAGE, out));
+    EXPECT(2 * AMV_ENTRY_LEN, out[AMV_PLACE]);
+}
+
 static void check(void)
 {
     uint64_t out[AMV_CHECK_WORDS];
@@ -213,6 +284,7 @@ int main(void)
     parse();
     reads();
     index_and_jump();
+    print_index();
     check();
     texts();
     others();

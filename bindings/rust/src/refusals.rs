@@ -58,7 +58,7 @@ refusals! {
     // Reads, index, jumps
     (31, UNKNOWN_TAG, "Is the tag 00dc or 01wb, a picture's or sound's?", "the chunk's offset"),
     (32, STATE_OUT_OF_RANGE, "Are cursor, frames, samples and blocks each at most 2^62?", "0"),
-    (40, TABLE_TOO_SHORT, "Does the table hold all records?", "0"),
+    (40, TABLE_TOO_SHORT, "Does the table hold all records, or the page all lines?", "0"),
     (41, TABLE_RAGGED, "Is the table whole records of 24 bytes?", "0"),
     (42, NO_SUCH_STREAM, "Is the stream of the jump 0 or 1?", "0"),
     (43, BAD_RECORD, "Has the record a known tag, and fewer than 2^62 samples before it?", "the record's start in the table"),
@@ -78,4 +78,6 @@ refusals! {
     (63, AUDIO_AT_EVEN_POSITION, "Does no sound stand at an even position?", "its position"),
     (64, OTHER_AT_POSITION, "Is every tag a picture's or sound's?", "its position"),
     (65, ODD_CHUNK_COUNT, "Is the number of tags even?", "the number of tags"),
+    // The page
+    (70, SAMPLES_TOO_WIDE, "Has the number of samples before the record at most 18 digits?", "the record's start in the table"),
 }

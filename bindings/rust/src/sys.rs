@@ -30,6 +30,14 @@ unsafe extern "C" {
         request: i64,
         out: *mut [u64; 2],
     ) -> u32;
+    /// The page of an index: a line of 40 columns for each record, and their number. Refuses with 41, 43, 70 and 40.
+    pub fn amv_print_index(
+        table: *const u8,
+        table_len: usize,
+        page: *mut u8,
+        page_len: usize,
+        out: *mut [u64; 2],
+    ) -> u32;
     /// How many frames and blocks a file has. Refuses with 10 and 31.
     pub fn amv_summary(file: *const u8, len: usize, out: *mut [u64; 3]) -> u32;
     /// The totals of a finished recording. Refuses with 10 to 24, 60, 61 and 31.

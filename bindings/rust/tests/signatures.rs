@@ -171,7 +171,7 @@ fn of_source() -> Functions {
 #[test]
 fn header_binding_and_source_agree() {
     let source = of_source();
-    assert_eq!(source.len(), 11, "the functions of the interface");
+    assert_eq!(source.len(), 12, "the functions of the interface");
     assert_eq!(
         of_header(),
         source,
@@ -279,7 +279,7 @@ fn refusals_of_source() -> Vec<(u32, String, Option<String>)> {
 #[test]
 fn refusals_agree() {
     let header = refusals_of_header();
-    assert_eq!(header.len(), 40, "the refusals");
+    assert_eq!(header.len(), 41, "the refusals");
     assert_eq!(refusals_of_binding(), header, "refusals.rs and amv.h");
     assert_eq!(refusals_of_format(), header, "docs/FORMAT.md and amv.h");
     let by_source: Vec<_> = header
@@ -325,6 +325,11 @@ fn version_and_limits_agree() {
             "AMV_ENTRY_LEN",
             "crates/chunk_index/src/entry.rt",
             "const LEN: usize =",
+        ),
+        (
+            "AMV_PAGE_COLUMNS",
+            "crates/page/src/lib.rt",
+            "const COLUMNS: usize =",
         ),
         (
             "AMV_VIDEO_CHUNK_TAG",
