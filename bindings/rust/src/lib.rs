@@ -191,7 +191,7 @@ impl ChunkIndex {
         answer(number, out).map(|_| ChunkIndex { records })
     }
 
-    /// Records from elsewhere, taken as they are: a jump over them asks whether they are good.
+    /// Records from elsewhere, taken as they are: a jump over them, and their page, ask whether they are good.
     pub fn from_records(records: Vec<u8>) -> ChunkIndex {
         ChunkIndex { records }
     }
@@ -215,6 +215,58 @@ impl ChunkIndex {
                 audio_pts_before: word(r, 16) as u64 | (word(r, 20) as u64) << 32,
             })
     }
+
+    /// The page of the index for a strip printer. Refuses with 70 where a record has too many samples before it for its columns, and
+    /// records from elsewhere with 41 and 43 too.
+    pub fn print(&self) -> Result<Page> {
+        let count = self.records.len() / ChunkIndexEntry::LEN;
+        let mut page = vec![b' '; count * Page::COLUMNS];
+        print_index(&self.records, &mut page)?;
+        // Each byte is a letter, a digit or a space: the library's contract says so.
+        let text = String::from_utf8(page).expect("a page is ASCII");
+        Ok(Page { text })
+    }
+}
+
+/// The page of an index for a strip printer: a line of 40 columns for each record, without line ends.
+///
+/// Column 1 is `V` for a picture or `A` for sound, 2 to 11 are the chunk's offset, 12 to 21 the frames before it, 22 to 40 the samples
+/// before it. A number is decimal, at the right of its columns, with spaces left of it; column 22 is always a space. Blocks are not printed.
+#[derive(Clone, Debug, PartialEq, Eq)]
+pub struct Page {
+    text: String,
+}
+
+impl Page {
+    /// The columns of a line, which are its bytes.
+    pub const COLUMNS: usize = 40;
+
+    /// All lines, one after another.
+    pub fn text(&self) -> &str {
+        &self.text
+    }
+
+    /// The lines one by one, each of 40 columns, as a printer is fed with them.
+    pub fn lines(&self) -> impl Iterator<Item = &str> + '_ {
+        let starts = (0..self.text.len()).step_by(Page::COLUMNS);
+        starts.map(|start| &self.text[start..start + Page::COLUMNS])
+    }
+}
+
+/// Prints the records of an index to the front of a lent page, a line for each as [`Page`] has it, and gives the number of lines; the bytes
+/// after them stay. Refuses with 41, 43, 70 and 40.
+pub fn print_index(table: &[u8], page: &mut [u8]) -> Result<usize> {
+    let mut out = [0; 2];
+    let number = unsafe {
+        sys::amv_print_index(
+            table.as_ptr(),
+            table.len(),
+            page.as_mut_ptr(),
+            page.len(),
+            &mut out,
+        )
+    };
+    answer(number, out).map(|w| w[1] as usize)
 }
 
 /// The words of a walker.

@@ -215,6 +215,72 @@ fn a_damaged_file_is_played_up_to_the_damage() {
 }
 
 #[test]
+fn the_page_of_an_index_has_a_line_for_each_record() {
+    let page = ChunkIndex::build(&small()).unwrap().print().unwrap();
+    let lines = [
+        "V       316         0                  0",
+        "A       327         1                  0",
+    ];
+    assert_eq!(page.lines().collect::<Vec<_>>(), lines);
+    assert_eq!(page.text(), lines.concat());
+    // What is read in the columns of a line is the record's.
+    let index = ChunkIndex::build(&write(&packets())).unwrap();
+    let page = index.print().unwrap();
+    assert_eq!(page.lines().count(), 12);
+    for (line, entry) in page.lines().zip(index.entries()) {
+        let number = |columns: &str| columns.trim_start().parse::<u64>().unwrap();
+        assert_eq!(line.len(), Page::COLUMNS);
+        let picture = entry.tag == VIDEO_CHUNK_TAG;
+        assert_eq!(&line[..1], if picture { "V" } else { "A" });
+        assert_eq!(number(&line[1..11]), entry.file_offset.into());
+        assert_eq!(number(&line[11..21]), entry.video_pts_before.into());
+        assert_eq!(number(&line[21..]), entry.audio_pts_before);
+    }
+    let empty = ChunkIndex::from_records(Vec::new()).print().unwrap();
+    assert_eq!((empty.text(), empty.lines().count()), ("", 0));
+}
+
+/// A record of a picture with the greatest offset and count of frames.
+fn record(audio_pts_before: u64) -> Vec<u8> {
+    let mut bytes = VIDEO_CHUNK_TAG.to_le_bytes().to_vec();
+    bytes.extend([0xFF; 12]);
+    bytes.extend(audio_pts_before.to_le_bytes());
+    bytes
+}
+
+#[test]
+fn a_page_is_printed_to_lent_bytes_or_left_as_it_was() {
+    const MOST: u64 = 999_999_999_999_999_999;
+    let widest = "V42949672954294967295 999999999999999999";
+    let good = [record(0), record(0), record(MOST)].concat();
+    let wide = [record(0), record(MOST + 1), record(MOST + 1)].concat();
+    let bad = [&wide[..], &record(1 << 62)].concat();
+
+    let mut page = [b'#'; 121];
+    assert_eq!(print_index(&good, &mut page), Ok(3));
+    assert_eq!(&page[80..], format!("{widest}#").as_bytes());
+    assert_eq!(print_index(&good[48..], &mut page[..40]), Ok(1));
+    assert_eq!(&page[..40], widest.as_bytes());
+
+    for (table, number, place) in [
+        (&good[..71], AmvError::TABLE_RAGGED, 0),
+        (&bad[..], AmvError::BAD_RECORD, 72),
+        (&wide[..], AmvError::SAMPLES_TOO_WIDE, 24),
+        (&good[..], AmvError::TABLE_TOO_SHORT, 0),
+    ] {
+        // A byte too short for three lines, which is asked last.
+        let mut page = [b'#'; 121];
+        let refused = AmvError { number, place };
+        assert_eq!(print_index(table, &mut page[..119]), Err(refused));
+        assert_eq!(page, [b'#'; 121]);
+        // An index makes its own page, of the length that it needs.
+        let printed = ChunkIndex::from_records(table.to_vec()).print();
+        let left = (number != AmvError::TABLE_TOO_SHORT).then_some(refused);
+        assert_eq!(printed.err(), left);
+    }
+}
+
+#[test]
 fn a_refusal_says_its_question() {
     let file = small();
     let refused = check(&file[..352]).unwrap_err();
