@@ -3,6 +3,7 @@
  *
  *   panel play FILE PICTURE   opens it, builds the index, jumps to a picture and plays on with the sound that belongs to it. Any file
  *                             with the format's layout will do: cut, damaged, or written by another program.
+ *   panel print FILE          prints its index on the strip printer, to be pinned beside the vat.
  *   panel check FILE          says whether it is a finished recording, before it is handed on or graded.
  */
 #include <inttypes.h>
@@ -182,6 +183,44 @@ static int play(const char *name, int64_t picture)
     return jumped ? 0 : 1;
 }
 
+/* The strip printer, for which standard output stands in: it is fed with 40 columns, and moves on by a line. */
+static void feed_line(const uint8_t *line)
+{
+    fwrite(line, 1, AMV_PAGE_COLUMNS, stdout);
+    putchar('\n');
+}
+
+/* Lays the index out as a page, and feeds the printer with it line by line. A page that is refused has no lines. */
+static bool print_page(const struct table *table)
+{
+    uint64_t out[AMV_PAGE_WORDS];
+    size_t page_len = table->len / AMV_ENTRY_LEN * AMV_PAGE_COLUMNS;
+    uint8_t *page = malloc(page_len + 1);
+    if (page == NULL) {
+        perror("page");
+        return false;
+    }
+    uint32_t number = amv_print_index(table->records, table->len, page, page_len, out);
+    if (number != AMV_OK)
+        show_refusal("page", number, out);
+    for (size_t line = 0; line < out[AMV_PAGE_LINES]; line++)
+        feed_line(page + AMV_PAGE_COLUMNS * line);
+    free(page);
+    return number == AMV_OK;
+}
+
+static int print_index(const char *name)
+{
+    struct recording r;
+    struct table table;
+    if (!open_recording(name, &r) || !build_index(&r, &table))
+        return 1;
+    bool printed = print_page(&table);
+    free(table.records);
+    free(r.file);
+    return printed ? 0 : 1;
+}
+
 /* What must be finished is asked strictly: every field, every chunk, the trailer, nothing after it. */
 static int check(const char *name)
 {
@@ -204,8 +243,10 @@ int main(int argc, char **argv)
 {
     if (argc == 4 && strcmp(argv[1], "play") == 0)
         return play(argv[2], strtoll(argv[3], NULL, 10));
+    if (argc == 3 && strcmp(argv[1], "print") == 0)
+        return print_index(argv[2]);
     if (argc == 3 && strcmp(argv[1], "check") == 0)
         return check(argv[2]);
-    fprintf(stderr, "usage: panel play FILE PICTURE\n       panel check FILE\n");
+    fprintf(stderr, "usage: panel play FILE PICTURE\n       panel print FILE\n       panel check FILE\n");
     return 2;
 }

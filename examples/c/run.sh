@@ -1,6 +1,6 @@
 #!/bin/sh
 # Builds the library and the two programs; records; checks and plays the recording, one that was cut, one that is damaged, and one as
-# another program would write it. Standard output is what expected.txt stores.
+# another program would write it; prints the index of the recording. Standard output is what expected.txt stores.
 set -eu
 root=$(dirname -- "$(readlink -f -- "$0")")/../..
 root=$(readlink -f -- "$root") me=example
@@ -28,3 +28,5 @@ for name in vat cut damaged other; do
     ./panel check $name.amv || echo "(no finished recording)"
     ./panel play $name.amv 12
 done
+echo
+./panel print vat.amv
