@@ -20,7 +20,8 @@ use Rattle.chunk_index.specs.declared.entry.ChunkIndexEntry.{ChunkIndexEntry}
 use Rattle.seek.specs.Seek.{seekQuestions, find, landed, soughtFrom, seekOf}
 use Rattle.muxer.proofs.Writes.{header-refused, packet-refused, trailer-refused}
 use Rattle.muxer.specs.declared.Writer.{Writer}
-use Rattle.page.specs.Page.{pageQuestions, printedFrom, printOf}
+use Rattle.page.specs.Page.{printOf}
+use Rattle.page.proofs.Sentences.{page-sentences}
 use Rattle.recording.specs.WriteLists.{WriteCall, header, packet, trailer, writeStep}
 use Rattle.words.specs.Out.{given, checked, unlessRefused, readWords}
 use Rattle.words.specs.State.{walkerOf, walkerWords, writerOf, writerWords}
@@ -40,12 +41,11 @@ index-keeps file table r = go (andThen (indexOf file) (λ es. ask (leb (entryLen
     go (refused q) h = refl
 
 page-keeps : (table page : List ℕ) (r : Refusal) → given single (printOf table page .answer) ≡ refused r → printOf table page .page ≡ page
-unfolding printOf
-page-keeps table page r = go (pageQuestions table (length page))
+page-keeps table page r = go (printOf table page .answer) refl
   where
-    go : (a : Answer Unit) → given single (printedFrom page (entriesOf table) a .answer) ≡ refused r → printedFrom page (entriesOf table) a .page ≡ page
-    go (accepted u) h = never h
-    go (refused q) h = refl
+    go : (a : Answer ℕ) → printOf table page .answer ≡ a → given single a ≡ refused r → printOf table page .page ≡ page
+    go (accepted n) e h = never h
+    go (refused q) e h = page-sentences .gives-back table page q e
 
 -- a read
 asRead : Answer (List ℕ) → ReadAnswer
