@@ -50,7 +50,7 @@ includedir=\${prefix}/include
 libdir=\${prefix}/lib
 
 Name: amv
-Description: AMV recordings: read, index, jump, check and write them, proved
+Description: AMV recordings: read, index, jump, check, print and write them, proved
 Version: $version
 Cflags: -I"\${includedir}"
 Libs: -L"\${libdir}" -lamv

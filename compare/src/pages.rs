@@ -1,4 +1,4 @@
-//! Pages for the printer (document 02, M-100): what the request says of every page, in terms that share nothing with
+//! Pages for the printer (docs/FORMAT.md, 15): what the request says of every page, in terms that share nothing with
 //! those of the plain implementation, and the tables and pages that are fed to the comparison.
 
 use plain::{AUDIO, COUNT_LIMIT, LINE, Packet, RECORD, Record, VIDEO};

@@ -1,4 +1,4 @@
-//! The page for the printer (document 02, M-100): a line of 40 columns for each record of a table, and no line ends.
+//! The page for the printer (docs/FORMAT.md, 15): a line of 40 columns for each record of a table, and no line ends.
 
 use crate::index::good_records;
 use crate::{Answer, Record, VIDEO, ask, refuse};
