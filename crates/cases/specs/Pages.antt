@@ -4,6 +4,7 @@ use mathlib.Core.List.{List, [], _∷_, _++_}
 use Prim.Native.Nat.{ℕ, _-_, _^_}
 use lib.ListN.{replicate}
 use Rattle.error.specs.Answer.{Answer, accepted}
+use Rattle.fields.specs.Le.{Bytes}
 use Rattle.chunk.specs.Chunk.{videoTag, audioTag}
 use Rattle.chunk_index.specs.Entry.{entryBytes}
 use Rattle.page.specs.Page.{printOf}
@@ -33,6 +34,8 @@ abbrev pub prints : List ℕ → ℕ → Answer ℕ
 prints table room = printOf table (zeroed room) .answer
 
 pub record Pages : Type 0 where
+  -- the claims of page/Sentences are of tables of bytes whose page is accepted: this one, with the page of the next line
+  pub bytes : Bytes ownIndex
   -- E's own index, in a page of one byte more: "later bytes stay"
   pub example : printOf ownIndex (zeroed 81) ≡ record { answer = accepted 2; page = firstLine ++ (secondLine ++ zeroed 1) }
   -- each number fills its columns, but for column 22: "column 22 stays blank"
