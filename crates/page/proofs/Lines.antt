@@ -1,17 +1,18 @@
--- A line of the page and a turn of the loops: how long it is, when the samples are narrow, and that lines one after another make the page.
+-- A line of the page and a turn of the loops: how long it is, when the samples are narrow, and that lines one after another make the page;
+-- and how its questions can end.
 -- Assumes nothing.
 use mathlib.Core.Path.{_≡_, refl, sym, ap, _∙_}
 use mathlib.Core.Bool.{Bool, true, false}
-use mathlib.Core.List.{List, [], _∷_, _++_}
+use mathlib.Core.List.{List, _∷_, _++_}
 use Prim.Native.Nat.{ℕ, _+_, _*_, _≤_, _<_}
 use native.Mathlib.Decide.{decLe}
 use native.Mathlib.Omega.{arith}
-use borrow.Author.Tests.{le-leb, lt-leb, leb-true}
+use borrow.Author.Tests.{le-leb, lt-leb, leb-true, leb-false}
 use lib.Dec.{leb, eqb}
 use lib.ListN.{length, length-append}
-use Rattle.error.specs.Answer.{Answer, accepted, refused, ask, andThen}
+use Rattle.error.specs.Answer.{Answer, accepted, refused, numbered, ask, andThen}
 use Rattle.error.specs.declared.Refusal.{Refusal}
-use Rattle.error.proofs.Answers.{clash, then-passed, ask-passed}
+use Rattle.error.proofs.Answers.{never, clash}
 use Rattle.fields.specs.Le.{Bytes, put}
 use Rattle.fields.proofs.Laws.{le-lt, put-put}
 use Rattle.chunk.specs.Chunk.{videoTag}
@@ -22,7 +23,7 @@ use Rattle.table.proofs.Records.{entry-small}
 use Rattle.text.specs.Text.{decimal, kind, right}
 use Rattle.text.proofs.Digits.{decimal-fit, decimal-many}
 use Rattle.text.proofs.Laws.{length-right}
-use Rattle.page.specs.Page.{columns, narrowSamples, pageLine, pageLines, pageQuestions, Printing, printOf}
+use Rattle.page.specs.Page.{columns, narrowSamples, pageLine, pageLines, pageQuestions, printOf}
 use Rattle.page.specs.Steps.{Fits}
 
 -- ---- 18 digits
@@ -107,14 +108,43 @@ pub record Passed (table : List ℕ) (room : ℕ) : Type 0 where
   pub narrow : askEach narrowSamples 70 0 (entriesOf table) ≡ accepted tt
   pub fits : columns * length (entriesOf table) ≤ room
 
+-- the questions end in one of four ways: 41 or 43 says no; both say yes and 70 says no; all three say yes and 40 says no; all say yes
+abbrev done : Answer Unit
+done = accepted tt
+
+module _ (table : List ℕ) (room : ℕ) (P : Answer Unit → Type 0)
+    (bad : (r : Refusal) → tableQuestions table ≡ refused r → P (refused r))
+    (wide : (r : Refusal) → tableQuestions table ≡ done → askEach narrowSamples 70 0 (entriesOf table) ≡ refused r → P (refused r))
+    (short : tableQuestions table ≡ done → askEach narrowSamples 70 0 (entriesOf table) ≡ done → room < columns * length (entriesOf table)
+    → P (refused (numbered 40 0)))
+    (passes : Passed table room → P done) where
+  by-room : tableQuestions table ≡ done → askEach narrowSamples 70 0 (entriesOf table) ≡ done → (b : Bool)
+      → leb (columns * length (entriesOf table)) room ≡ b → P (ask b 40 0 done)
+  by-room g n true e = passes (record { good = g; narrow = n; fits = leb-true _ _ e })
+  by-room g n false e = short g n (leb-false _ _ e)
+
+  by-samples : tableQuestions table ≡ done → (y : Answer Unit) → askEach narrowSamples 70 0 (entriesOf table) ≡ y
+      → P (andThen y (λ _. ask (leb (columns * length (entriesOf table)) room) 40 0 done))
+  by-samples g (accepted u) e = by-room g e _ refl
+  by-samples g (refused r) e = wide r g e
+
+  by-table : (x : Answer Unit) → tableQuestions table ≡ x
+      → P
+      (andThen x (λ _. andThen (askEach narrowSamples 70 0 (entriesOf table)) (λ _. ask (leb (columns * length (entriesOf table)) room) 40 0 done)))
+  by-table (accepted u) e = by-samples e _ refl
+  by-table (refused r) e = bad r e
+
+  pub page-cases : P (pageQuestions table room)
+  unfolding pageQuestions
+  page-cases = by-table _ refl
+
 pub questions-passed : (table : List ℕ) (room : ℕ) → pageQuestions table room ≡ accepted tt → Passed table room
-unfolding pageQuestions
-questions-passed table room h =
-    let last : Answer Unit = ask (leb (columns * length (entriesOf table)) room) 40 0 (accepted tt) in
-    let a = then-passed (tableQuestions table) (λ _. andThen (askEach narrowSamples 70 0 (entriesOf table)) (λ _. last)) h in
-    let b = then-passed (askEach narrowSamples 70 0 (entriesOf table)) (λ _. last) (a .1) in
-    let c = ask-passed (leb (columns * length (entriesOf table)) room) 40 0 (accepted tt) (b .1) in
-    record { good = a .0; narrow = b .0; fits = leb-true _ _ (c .0) }
+questions-passed table room =
+    page-cases table room (λ (q : Answer Unit). q ≡ accepted tt → Passed table room)
+    (λ r e h. never (sym h))
+    (λ r g e h. never (sym h))
+    (λ g n e h. never (sym h))
+    (λ p h. p)
 
 module _ (table page : List ℕ) where
   pub print-refused : {r : Refusal} → pageQuestions table (length page) ≡ refused r → printOf table page ≡ record { answer = refused r; page = page }

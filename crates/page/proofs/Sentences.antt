@@ -1,31 +1,41 @@
 -- 02's sentences about the page hold. An accepted page has passed the questions, so each of its records has a line; the lines are taken off one by
--- one and read back. A refusal is one of the questions' by the cases of their answers. Assumes nothing.
+-- one and read back. A refusal is one of three (`page-cases`). Assumes nothing.
 use mathlib.Core.Path.{_≡_, refl, sym, ap, _∙_, subst}
-use mathlib.Core.Bool.{Bool, true, false}
-use mathlib.Core.List.{List, [], _∷_, _++_, map, append-nil}
-use Prim.Native.Nat.{ℕ, zero, suc, _+_, _*_, _/_, _≤_}
+use mathlib.Core.Bool.{true, false}
+use mathlib.Core.List.{List, [], _∷_, _++_, map}
+use Prim.Native.Nat.{ℕ, zero, suc, _+_, _*_, _/_, _%_, _<_}
 use native.Mathlib.Nat.{zero-add}
 use native.Mathlib.Omega.{arith}
-use lib.Dec.{leb}
+use borrow.Author.Tests.{eqb-true}
+use lib.Dec.{eqb}
 use lib.ListN.{length, take, drop}
 use lib.Seq.{drop-at}
-use Rattle.error.specs.Answer.{Answer, accepted, refused, numbered, numberOf, ask, andThen}
+use Rattle.error.specs.Answer.{Answer, accepted, refused, numbered, numberOf, andThen}
 use Rattle.error.specs.Sentences.{oneOf, RefusedBy}
 use Rattle.error.specs.declared.Refusal.{Refusal}
-use Rattle.error.proofs.Answers.{never, clash, accepted-same, then-passed}
-use Rattle.error.proofs.Sentences.{asked-by, then-by}
+use Rattle.error.proofs.Answers.{never, clash, accepted-same, then-passed, ask-passed}
+use Rattle.error.proofs.Sentences.{then-by}
 use Rattle.fields.specs.Le.{Bytes, put}
 use Rattle.fields.proofs.Laws.{front-put}
-use Rattle.chunk_index.specs.Entry.{entryLen, entryAt, entriesFrom, entriesOf}
+use Rattle.chunk_index.specs.Entry.{entryLen, entriesFrom, entriesOf}
 use Rattle.chunk_index.specs.declared.entry.ChunkIndexEntry.{ChunkIndexEntry}
-use Rattle.table.specs.Table.{askEach, wholeRecords, goodEntry, goodEntries, tableQuestions}
+use Rattle.table.specs.Table.{wholeRecords, goodEntry, goodEntries, tableQuestions}
 use Rattle.table.specs.Sentences.{AllPass, FirstNo}
 use Rattle.table.proofs.Sentences.{whole-by, each-by, each-sentences}
-use Rattle.page.specs.Page.{columns, narrowSamples, pageLine, pageLines, pageQuestions, printedFrom, printOf}
-use Rattle.page.specs.Reading.{Shown, readLine, linesOf}
-use Rattle.page.specs.Sentences.{Each, GoodLine, AllAligned, shownOf, PageSentences}
-use Rattle.page.proofs.Lines.{narrow-below, narrow-above, entry-fits, Passed, questions-passed}
+use Rattle.page.specs.Page.{narrowSamples, pageLine, pageLines, pageQuestions, printedFrom, printOf}
+use Rattle.page.specs.Reading.{readLine, linesOf}
+use Rattle.page.specs.Sentences.{Each, GoodLine, AllAligned, shownOf, Good, PageSentences}
+use Rattle.page.proofs.Lines.{narrow-below, narrow-above, entry-fits, Passed, page-cases, questions-passed}
 use Rattle.page.proofs.Reading.{Lined, length-lines, lines-back, all-read, all-aligned, all-good}
+
+-- what 41 and 43 have let pass
+good : (table : List ℕ) → tableQuestions table ≡ accepted tt → Good table
+good table h =
+    let p = then-passed (wholeRecords table) (λ _. goodEntries (entriesOf table)) h in
+    record {
+      whole = eqb-true _ _ (ask-passed (eqb (length table % entryLen) 0) 41 0 (accepted tt) (p .0) .0);
+      records = each-sentences .accepted-all goodEntry 43 (entriesOf table) (p .1);
+    }
 
 -- ---- an accepted page
 
@@ -64,8 +74,7 @@ module _ (table page : List ℕ) (n : ℕ) (b : Bytes table) (h : printOf table 
 
   all-lined : Each Lined es
   all-lined =
-      let good = then-passed (wholeRecords table) (λ _. goodEntries es) (a .passed .good) .1 in
-      lined (length table / entryLen) table 0 b (each-sentences .accepted-all goodEntry 43 es good)
+      lined (length table / entryLen) table 0 b (good table (a .passed .good) .records)
       (each-sentences .accepted-all narrowSamples 70 es (a .passed .narrow))
 
   size : length (pageLines es) ≡ 40 * n
@@ -128,15 +137,13 @@ asked-of-table ns a b table =
     then-by ns (wholeRecords table) (λ _. goodEntries (entriesOf table)) (whole-by ns a table) (λ u. each-by ns goodEntry 43 b 0 (entriesOf table))
 
 asked : (table : List ℕ) (room : ℕ) → RefusedBy (41 ∷ 43 ∷ 70 ∷ 40 ∷ []) (pageQuestions table room)
-unfolding pageQuestions
 asked table room =
     let ns : List ℕ = 41 ∷ 43 ∷ 70 ∷ 40 ∷ [] in
-    let last : Answer Unit = ask (leb (columns * length (entriesOf table)) room) 40 0 (accepted tt) in
-    let narrow : Answer Unit = askEach narrowSamples 70 0 (entriesOf table) in
-    then-by ns (tableQuestions table) (λ _. andThen narrow (λ _. last)) (asked-of-table ns refl refl table)
-    (λ u.
-    then-by ns narrow (λ _. last) (each-by ns narrowSamples 70 refl 0 (entriesOf table))
-    (λ u. asked-by ns (leb (columns * length (entriesOf table)) room) 40 0 (accepted tt) refl tt))
+    page-cases table room (RefusedBy ns)
+    (λ r e. subst (RefusedBy ns) e (asked-of-table ns refl refl table))
+    (λ r g e. subst (RefusedBy ns) e (each-by ns narrowSamples 70 refl 0 (entriesOf table)))
+    (λ g n e. refl)
+    (λ p. tt)
 
 module _ (table page : List ℕ) where
   gives-back : (r : Refusal) → printOf table page .answer ≡ refused r → printOf table page .page ≡ page
@@ -164,24 +171,31 @@ module _ (table page : List ℕ) where
       go (refused q) h = ap {A = Answer ℕ} {B = Answer Unit} (λ a. andThen a (λ _. accepted tt)) h
 
   -- a number that is none of some is no refusal's that they list
-  not-by : (ns : List ℕ) (q : Refusal) (at : ℕ) → RefusedBy {A = Unit} ns (refused q) → _≡_ {A = Answer Unit} (refused q) (refused (numbered 70 at))
-      → oneOf ns 70 ≡ false → {B : Type 0} → B
-  not-by ns q at h e f = clash (subst (λ (m : ℕ). oneOf ns m ≡ true) (ap {A = Answer Unit} numberOf e) h) f
+  not-by : (ns : List ℕ) (q : Refusal) (m at : ℕ) → RefusedBy {A = Unit} ns (refused q) → _≡_ {A = Answer Unit} (refused q) (refused (numbered m at))
+      → oneOf ns m ≡ false → {B : Type 0} → B
+  not-by ns q m at h e f = clash (subst (λ (k : ℕ). oneOf ns k ≡ true) (ap {A = Answer Unit} numberOf e) h) f
 
-  seventy : (at : ℕ) → printOf table page .answer ≡ refused (numbered 70 at) → FirstNo narrowSamples (entriesOf table) at
-  unfolding pageQuestions
+  seventy : (at : ℕ) → printOf table page .answer ≡ refused (numbered 70 at) → Good table × FirstNo narrowSamples (entriesOf table) at
   seventy at h =
-      go (tableQuestions table) (asked-of-table (41 ∷ 43 ∷ []) refl refl table) (askEach narrowSamples 70 0 (entriesOf table)) refl
-      (ask (leb (columns * length (entriesOf table)) (length page)) 40 0 (accepted tt))
-      (asked-by (40 ∷ []) (leb (columns * length (entriesOf table)) (length page)) 40 0 (accepted tt) refl tt) (questions-refused (numbered 70 at) h)
-    where
-      go : (x : Answer Unit) → RefusedBy (41 ∷ 43 ∷ []) x → (y : Answer Unit) → askEach narrowSamples 70 0 (entriesOf table) ≡ y
-          → (z : Answer Unit) → RefusedBy (40 ∷ []) z → andThen x (λ _. andThen y (λ _. z)) ≡ refused (numbered 70 at)
-          → FirstNo narrowSamples (entriesOf table) at
-      go (refused q) t y e z f h = not-by (41 ∷ 43 ∷ []) q at t h refl
-      go (accepted u) t (accepted v) e (accepted w) f h = never h
-      go (accepted u) t (accepted v) e (refused q) f h = not-by (40 ∷ []) q at f h refl
-      go (accepted u) t (refused q) e z f h = each-sentences .refused-first narrowSamples 70 (entriesOf table) (numbered 70 at) (e ∙ h) .1
+      page-cases table (length page)
+      (λ (q : Answer Unit). q ≡ refused (numbered 70 at) → Good table × FirstNo narrowSamples (entriesOf table) at)
+      (λ r e a. not-by (41 ∷ 43 ∷ []) r 70 at (subst (RefusedBy (41 ∷ 43 ∷ [])) e (asked-of-table (41 ∷ 43 ∷ []) refl refl table)) a refl)
+      (λ r g e a. (good table g, each-sentences .refused-first narrowSamples 70 (entriesOf table) (numbered 70 at) (e ∙ a) .1))
+      (λ g n e a. not-by (40 ∷ []) (numbered 40 0) 70 at refl a refl)
+      (λ p a. never a)
+      (questions-refused (numbered 70 at) h)
+
+  forty : (at : ℕ) → printOf table page .answer ≡ refused (numbered 40 at)
+      → Good table × AllPass narrowSamples (entriesOf table) × (length page < 40 * length (entriesOf table))
+  forty at h =
+      page-cases table (length page)
+      (λ (q : Answer Unit). q ≡ refused (numbered 40 at)
+      → Good table × AllPass narrowSamples (entriesOf table) × (length page < 40 * length (entriesOf table)))
+      (λ r e a. not-by (41 ∷ 43 ∷ []) r 40 at (subst (RefusedBy (41 ∷ 43 ∷ [])) e (asked-of-table (41 ∷ 43 ∷ []) refl refl table)) a refl)
+      (λ r g e a. not-by (70 ∷ []) r 40 at (subst (RefusedBy (70 ∷ [])) e (each-by (70 ∷ []) narrowSamples 70 refl 0 (entriesOf table))) a refl)
+      (λ g n e a. (good table g, each-sentences .accepted-all narrowSamples 70 (entriesOf table) n, e))
+      (λ p a. never a)
+      (questions-refused (numbered 40 at) h)
 
 pub page-sentences : PageSentences
 page-sentences =
@@ -195,6 +209,7 @@ page-sentences =
       wide = narrow-above;
       narrow = narrow-below;
       seventy = seventy;
+      forty = forty;
       gives-back = λ table page. gives-back table page;
       numbers = numbers;
     }

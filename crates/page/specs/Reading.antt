@@ -12,7 +12,7 @@ use Rattle.chunk.specs.Chunk.{videoTag, audioTag}
 abbrev pub fromTo : ℕ → ℕ → List ℕ → List ℕ
 fromTo first last line = take (last + 1 - first) (drop (first - 1) line)
 
--- the number in some columns, n being what was read of it: spaces are skipped, and each digit makes what was read ten times as much
+-- the number in some columns, n being what was read of it: spaces are skipped, and a digit is added to ten times what was read
 unfoldable pub numberIn : ℕ → List ℕ → ℕ
 numberIn n [] = n
 numberIn n (c ∷ cs) = cond (eqb c 32) (numberIn n cs) (numberIn (10 * n + (c - 48)) cs)

@@ -1,6 +1,6 @@
 -- 02's sentences about the page, a second time: by what is read from it. Assumes nothing.
 use mathlib.Core.Path.{_≡_}
-use Prim.Native.Nat.{ℕ, _*_, _≤_, _<_}
+use Prim.Native.Nat.{ℕ, _*_, _%_, _≤_, _<_}
 use mathlib.Core.Bool.{true, false}
 use mathlib.Core.List.{List, [], _∷_, _++_, map}
 use mathlib.Core.Option.{some}
@@ -10,7 +10,8 @@ use Rattle.error.specs.Sentences.{GivesBack, RefusedBy}
 use Rattle.fields.specs.Le.{Bytes}
 use Rattle.chunk_index.specs.Entry.{entriesOf}
 use Rattle.chunk_index.specs.declared.entry.ChunkIndexEntry.{ChunkIndexEntry}
-use Rattle.table.specs.Sentences.{FirstNo}
+use Rattle.table.specs.Table.{goodEntry}
+use Rattle.table.specs.Sentences.{AllPass, FirstNo}
 use Rattle.page.specs.Page.{narrowSamples, printOf}
 use Rattle.page.specs.Reading.{fromTo, numberIn, Shown, readLine, linesOf}
 
@@ -57,6 +58,11 @@ AllAligned (line ∷ lines) (e ∷ es) = Aligned line e × AllAligned lines es
 abbrev pub shownOf : ChunkIndexEntry → Shown
 shownOf e = record { tag = some (e .tag); offset = e .position .cursor; frames = e .position .frames .0; samples = e .position .samples .0 }
 
+-- 41 and 43 have been answered with yes, the second of every record
+pub record Good (table : List ℕ) : Type 0 where
+  pub whole : length table % 24 ≡ 0
+  pub records : AllPass goodEntry (entriesOf table)
+
 -- of every table of bytes, as a lent one is
 pub record PageSentences : Type 0 where
   -- "The answer is the line count": a line for each record, all of them within the page
@@ -81,8 +87,12 @@ pub record PageSentences : Type 0 where
   pub wide : (e : ChunkIndexEntry) → 1000000000000000000 ≤ e .position .samples .0 → e .position .samples .0 < 18446744073709551616
       → narrowSamples e ≡ false
   pub narrow : (e : ChunkIndexEntry) → e .position .samples .0 < 1000000000000000000 → narrowSamples e ≡ true
-  -- "place of the first such record"
-  pub seventy : (table page : List ℕ) (at : ℕ) → printOf table page .answer ≡ refused (numbered 70 at) → FirstNo narrowSamples (entriesOf table) at
+  -- "place of the first such record, after 41 and 43 over the whole table"
+  pub seventy : (table page : List ℕ) (at : ℕ) → printOf table page .answer ≡ refused (numbered 70 at)
+      → Good table × FirstNo narrowSamples (entriesOf table) at
+  -- "40 when the page buffer is too short, last"
+  pub forty : (table page : List ℕ) (at : ℕ) → printOf table page .answer ≡ refused (numbered 40 at)
+      → Good table × AllPass narrowSamples (entriesOf table) × (length page < 40 * length (entriesOf table))
   -- "It returns the state it was given and changes no lent byte", and the numbers that 02 lists
   pub gives-back : (table : List ℕ) → GivesBack (λ page. printOf table page .answer) (λ page. printOf table page .page)
   pub numbers : (table page : List ℕ) → RefusedBy (41 ∷ 43 ∷ 70 ∷ 40 ∷ []) (printOf table page .answer)

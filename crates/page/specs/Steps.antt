@@ -1,5 +1,5 @@
 -- Steps on the way: what functions below the call promise each other. Nothing here need be believed. Assumes nothing.
-use Prim.Native.Nat.{ℕ, _<_}
+use Prim.Native.Nat.{_<_}
 use Rattle.chunk_index.specs.Steps.{Small}
 use Rattle.chunk_index.specs.declared.entry.ChunkIndexEntry.{ChunkIndexEntry}
 

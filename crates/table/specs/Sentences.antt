@@ -4,7 +4,7 @@ use Prim.Native.Nat.{ℕ, _*_}
 use mathlib.Core.Bool.{Bool, true, false}
 use mathlib.Core.List.{List, [], _∷_, _++_}
 use lib.ListN.{length}
-use Rattle.error.specs.Answer.{accepted, refused, numbered}
+use Rattle.error.specs.Answer.{accepted, refused}
 use Rattle.error.specs.declared.Refusal.{Refusal}
 use Rattle.chunk_index.specs.declared.entry.ChunkIndexEntry.{ChunkIndexEntry}
 use Rattle.table.specs.Table.{askEach}

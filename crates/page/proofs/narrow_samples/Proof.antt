@@ -1,7 +1,7 @@
 -- `page::narrow_samples` meets its contract. The invariant of its loop: asking the records of the bytes that are left is asking all of them, and offset
 -- and rest add up to the table's length. The measure is the rest; `each-on`, `each-no` and `entries-off` are a turn and its two ends.
 -- Assumes nothing.
-use mathlib.Core.Path.{_≡_, refl, sym, ap, _∙_}
+use mathlib.Core.Path.{_≡_, refl, sym, _∙_}
 use Prim.Native.Nat.{_+_, _/_}
 use native.Mathlib.Omega.{arith}
 use lib.ListN.{length}

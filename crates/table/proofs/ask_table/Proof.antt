@@ -1,7 +1,6 @@
 -- `table::ask_table` meets its contract: what `whole_records` accepts goes on to `good_entries` (`then-ok`), and what it refuses is refused (`then-err`).
 -- Assumes nothing.
 use mathlib.Core.Path.{sym, _∙_}
-use Rattle.error.specs.Answer.{Answer}
 use Rattle.error.proofs.Answers.{then-ok, then-err}
 use Rattle.chunk_index.specs.Entry.{entriesOf}
 use Rattle.table.specs.Steps.{passOver}

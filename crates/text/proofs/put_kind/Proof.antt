@@ -1,7 +1,6 @@
 -- `text::put_kind` meets its contract. One byte stored is a word of one letter (`put-one`), which `letter` gives.
 -- Assumes nothing.
 use mathlib.Core.Path.{ap, _∙_}
-use mathlib.Core.List.{[], _∷_}
 use native.Mathlib.Omega.{arith}
 use borrow.Author.Needs.{needs}
 use lib.ListN.{length}
