@@ -11,7 +11,8 @@ use Rattle.error.specs.declared.AmvError.the-variants.{WrongCbSize, Prea
 use Rattle.error.specs.declared.AmvError.the-variants.{ChunkHeaderTooShort, UnknownTag, StateOutOfRange, TableTooShort, TableRagged}
 use Rattle.error.specs.declared.AmvError.the-variants.{NoSuchStream, BadRecord, AlreadyBegun, NotBegun, PayloadTooLong, PacketOfNoStream}
 use Rattle.error.specs.declared.AmvError.the-variants.{NoRoom, AlreadyEnded, PreludeMissing, ChunkCut, AfterTrailer, VideoAtOddPosition}
-use Rattle.error.specs.declared.AmvError.the-variants.{AudioAtEvenPosition, OtherAtPosition, OddChunkCount, SamplesTooWide}
+use Rattle.error.specs.declared.AmvError.the-variants.{AudioAtEvenPosition, OtherAtPosition, OddChunkCount, SamplesTooWide, StepIndexTooLarge}
+use Rattle.error.specs.declared.AmvError.the-variants.{NibblesMissing, SampleBufferTooShort}
 
 no-zero : (e : AmvError) → eqb (refusalOf e .number) 0 ≡ false
 no-zero FileTooLong = refl
@@ -54,6 +55,9 @@ no-zero (AudioAtEvenPosition place) = refl
 no-zero (OtherAtPosition place) = refl
 no-zero (OddChunkCount place) = refl
 no-zero (SamplesTooWide place) = refl
+no-zero StepIndexTooLarge = refl
+no-zero NibblesMissing = refl
+no-zero SampleBufferTooShort = refl
 
 pub never-zero : (e : AmvError) → refusalOf e .number ≡ 0 → ⊥
 never-zero e = eqb-false (refusalOf e .number) 0 (no-zero e)

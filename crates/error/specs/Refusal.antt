@@ -8,7 +8,8 @@ use Rattle.error.specs.declared.AmvError.the-variants.{WrongCbSize, Prea
 use Rattle.error.specs.declared.AmvError.the-variants.{ChunkHeaderTooShort, UnknownTag, StateOutOfRange, TableTooShort, TableRagged}
 use Rattle.error.specs.declared.AmvError.the-variants.{NoSuchStream, BadRecord, AlreadyBegun, NotBegun, PayloadTooLong, PacketOfNoStream}
 use Rattle.error.specs.declared.AmvError.the-variants.{NoRoom, AlreadyEnded, PreludeMissing, ChunkCut, AfterTrailer, VideoAtOddPosition}
-use Rattle.error.specs.declared.AmvError.the-variants.{AudioAtEvenPosition, OtherAtPosition, OddChunkCount, SamplesTooWide}
+use Rattle.error.specs.declared.AmvError.the-variants.{AudioAtEvenPosition, OtherAtPosition, OddChunkCount, SamplesTooWide, StepIndexTooLarge}
+use Rattle.error.specs.declared.AmvError.the-variants.{NibblesMissing, SampleBufferTooShort}
 use Rattle.error.specs.declared.AmvResult.{AmvResult}
 use Rattle.error.specs.declared.AmvResult.the-variants.{Ok, Err}
 
@@ -54,6 +55,9 @@ refusalOf (AudioAtEvenPosition position) = numbered 63 position
 refusalOf (OtherAtPosition position) = numbered 64 position
 refusalOf (OddChunkCount count) = numbered 65 count
 refusalOf (SamplesTooWide place) = numbered 70 place
+refusalOf StepIndexTooLarge = numbered 71 2
+refusalOf NibblesMissing = numbered 72 4
+refusalOf SampleBufferTooShort = numbered 73 0
 
 -- the result of a call that only checks
 abbrev pub said : AmvResult → Answer Unit

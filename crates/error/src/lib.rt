@@ -51,6 +51,9 @@ pub enum AmvError {
     OtherAtPosition(u64),
     OddChunkCount(u64),
     SamplesTooWide(u64),
+    StepIndexTooLarge,
+    NibblesMissing,
+    SampleBufferTooShort,
 }
 
 // What a call answers that only checks: nothing to say, or a refusal.
@@ -198,6 +201,18 @@ impl AmvError {
                 place: count,
             },
             AmvError::SamplesTooWide(place) => Refusal { number: 70, place },
+            AmvError::StepIndexTooLarge => Refusal {
+                number: 71,
+                place: 2,
+            },
+            AmvError::NibblesMissing => Refusal {
+                number: 72,
+                place: 4,
+            },
+            AmvError::SampleBufferTooShort => Refusal {
+                number: 73,
+                place: 0,
+            },
         }
     }
 

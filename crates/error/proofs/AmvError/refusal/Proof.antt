@@ -131,6 +131,15 @@ enum-known-self-19 c = search needs
 enum-known-self-20 : tie.Need-enum-known-self-20
 enum-known-self-20 c = search needs
 
+enum-told-21 : tie.Need-enum-told-21
+enum-told-21 c = search needs
+
+enum-told-22 : tie.Need-enum-told-22
+enum-told-22 c = search needs
+
+enum-told-23 : tie.Need-enum-told-23
+enum-told-23 c = search needs
+
 returns : tie.Need-returns
 returns c = is (c .enum-told .given .1)
 
@@ -251,6 +260,15 @@ returns-39 c = is (c .before .self19 .given .1)
 returns-40 : tie.Need-returns-40
 returns-40 c = is (c .before .self20 .given .1)
 
+returns-41 : tie.Need-returns-41
+returns-41 c = is (c .enum-told21 .given .1)
+
+returns-42 : tie.Need-returns-42
+returns-42 c = is (c .enum-told22 .given .1)
+
+returns-43 : tie.Need-returns-43
+returns-43 c = is (c .enum-told23 .given .1)
+
 pub refusal-spec : {M : Type 1} → statement M
 refusal-spec =
     tie.close
@@ -295,6 +313,9 @@ refusal-spec =
     enum-known-self-18
     enum-known-self-19
     enum-known-self-20
+    enum-told-21
+    enum-told-22
+    enum-told-23
     returns
     returns-2
     returns-3
@@ -334,4 +355,7 @@ refusal-spec =
     returns-37
     returns-38
     returns-39
-    returns-40)
+    returns-40
+    returns-41
+    returns-42
+    returns-43)
