@@ -22,6 +22,8 @@ use Rattle.muxer.proofs.Writes.{header-refused, packet-refused, trailer-refused
 use Rattle.muxer.specs.declared.Writer.{Writer}
 use Rattle.page.specs.Page.{printOf}
 use Rattle.page.proofs.Sentences.{page-sentences}
+use Rattle.sound.specs.Sound.{decodeOf}
+use Rattle.sound.proofs.Sentences.{sound-sentences}
 use Rattle.recording.specs.WriteLists.{WriteCall, header, packet, trailer, writeStep}
 use Rattle.words.specs.Out.{given, checked, unlessRefused, readWords}
 use Rattle.words.specs.State.{walkerOf, walkerWords, writerOf, writerWords}
@@ -40,12 +42,10 @@ index-keeps file table r = go (andThen (indexOf file) (λ es. ask (leb (entryLen
     go (accepted es) h = never h
     go (refused q) h = refl
 
-page-keeps : (table page : List ℕ) (r : Refusal) → given single (printOf table page .answer) ≡ refused r → printOf table page .page ≡ page
-page-keeps table page r = go (printOf table page .answer) refl
-  where
-    go : (a : Answer ℕ) → printOf table page .answer ≡ a → given single a ≡ refused r → printOf table page .page ≡ page
-    go (accepted n) e h = never h
-    go (refused q) e h = page-sentences .gives-back table page q e
+-- a count that was refused
+count-refused : (a : Answer ℕ) (r : Refusal) → given single a ≡ refused r → a ≡ refused r
+count-refused (accepted n) r h = never h
+count-refused (refused q) r h = cc
 
 -- a read
 asRead : Answer (List ℕ) → ReadAnswer
@@ -106,7 +106,8 @@ pub refusals-keep : RefusalsKeep
 refusals-keep =
     record {
       index = index-keeps;
-      page = page-keeps;
+      page = λ table page r h. page-sentences .gives-back table page r (count-refused (printOf table page .answer) r h);
+      samples = λ block samples r h. sound-sentences .gives-back block samples r (count-refused (decodeOf block samples .answer) r h);
       next = λ file ws r l h. walker-keeps ws (nextAnswer file) (nextWalker file) r l (λ w h. refused-stays file w (read-refused w _ h)) (walkerOf ws) refl h;
       seek =
           λ table ws stream request r l h.

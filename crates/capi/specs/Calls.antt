@@ -16,6 +16,7 @@ use Rattle.muxer.specs.Writer.{WriteOutcome}
 use Rattle.muxer.specs.declared.Writer.{Writer}
 use Rattle.finished.specs.Check.{checkOf}
 use Rattle.page.specs.Page.{printOf}
+use Rattle.sound.specs.Sound.{decodeOf}
 use Rattle.finished.specs.declared.Totals.{Totals}
 use Rattle.words.specs.Out.{OutSays, given, checked, unlessRefused, readWords, preludeWords}
 use Rattle.words.specs.State.{markWord, walkerOf, walkerWords, writerOf, writerWords}
@@ -45,6 +46,10 @@ indexAnswer file table = given single (buildOf file table .answer)
 -- lines
 abbrev pub pageAnswer : List ℕ → List ℕ → Answer (List ℕ)
 pageAnswer table page = given single (printOf table page .answer)
+
+-- /* place, count */ of a block's samples
+abbrev pub samplesAnswer : List ℕ → List ℤ → Answer (List ℕ)
+samplesAnswer block samples = given single (decodeOf block samples .answer)
 
 -- the prelude's fields
 abbrev pub parseAnswer : List ℕ → Bool → Answer (List ℕ)

@@ -8,16 +8,19 @@ use Rattle.error.specs.Answer.{refused, andThen}
 use Rattle.error.specs.declared.Refusal.{Refusal}
 use Rattle.chunk_index.specs.Index.{buildOf}
 use Rattle.page.specs.Page.{printOf}
+use Rattle.sound.specs.Sound.{decodeOf}
 use Rattle.recording.specs.WriteLists.{WriteCall}
 use Rattle.words.specs.Out.{checked}
 use Rattle.words.specs.State.{walkerOf, writerOf}
-use Rattle.capi.specs.Calls.{indexAnswer, pageAnswer, walkerAfterCall, nextAnswer, nextWalker, seekAnswer, seekWalker, writerAfterCall, bufferAfterCall}
+use Rattle.capi.specs.Calls.{indexAnswer, pageAnswer, samplesAnswer, walkerAfterCall, nextAnswer, nextWalker, seekAnswer, seekWalker, writerAfterCall, bufferAfterCall}
 use Rattle.capi.specs.Lists.{step}
 
--- every word of the state and every byte of the table, page or buffer is as it was
+-- every word of the state, every byte of the table, page or buffer and every sample is as it was
 pub record RefusalsKeep : Type 0 where
   pub index : (file table : List ℕ) (r : Refusal) → indexAnswer file table ≡ refused r → buildOf file table .table ≡ table
   pub page : (table page : List ℕ) (r : Refusal) → pageAnswer table page ≡ refused r → printOf table page .page ≡ page
+  pub samples : (block : List ℕ) (samples : List ℤ) (r : Refusal) → samplesAnswer block samples ≡ refused r
+      → decodeOf block samples .samples ≡ samples
   pub next : (file ws : List ℕ) (r : Refusal) → length ws ≡ 7 → andThen (walkerOf ws) (nextAnswer file) ≡ refused r
       → walkerAfterCall (nextWalker file) ws ≡ ws
   pub seek : (table ws : List ℕ) (stream : ℕ) (request : ℤ) (r : Refusal) → length ws ≡ 7

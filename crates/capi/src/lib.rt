@@ -15,6 +15,8 @@ use prelude::prelude::AmvPrelude;
 use prelude::prelude::AmvPreludeResult;
 use seek::SeekResult;
 use seek::seek_to_via_index;
+use sound::SamplesResult;
+use sound::decode_block;
 use words::out::packet_out;
 use words::out::prelude_out;
 use words::out::result_out;
@@ -34,9 +36,10 @@ ghost use Rattle.duration.specs.Duration.{packedOf, runLength};
 ghost use Rattle.prelude.specs.Prelude.{saidPrelude, parseOf, strictOf};
 ghost use Rattle.chunk_index.specs.Index.{buildOf};
 ghost use Rattle.page.specs.Page.{printOf};
+ghost use Rattle.sound.specs.Sound.{decodeOf};
 ghost use Rattle.muxer.specs.Writer.{headerCall, packetCall, trailerCall};
 ghost use Rattle.words.specs.Out.{OutSays, checked};
-ghost use Rattle.capi.specs.Calls.{summaryAnswer, checkAnswer, indexAnswer, pageAnswer, parseAnswer};
+ghost use Rattle.capi.specs.Calls.{summaryAnswer, checkAnswer, indexAnswer, pageAnswer, parseAnswer, samplesAnswer};
 ghost use Rattle.capi.specs.Calls.{WalkerCall, nextAnswer, nextWalker, seekAnswer, seekWalker, WriterCall};
 
 // The number of a call whose state's words are not all in their fields' ranges.
@@ -129,6 +132,24 @@ pub extern "C" fn amv_print_index(table: &[u8], page: &mut [u8], out: &mut [u64;
             0
         }
         PageResult::Err(e) => {
+            *out = [e.place(), 0];
+            e.number()
+        }
+    }
+}
+
+// The samples of a sound block: IMA ADPCM, a signed 16-bit number for each nibble; gives how many they are. Refuses with 25, 71, 72 and 73.
+#[no_mangle]
+pub extern "C" fn amv_decode_block(block: &[u8], samples: &mut [i16], out: &mut [u64; 2]) -> u32
+    ensures { λ r. ⌜ OutSays 2 (samplesAnswer (now (block .entry)) (now (samples .entry))) r (now (out .exit)) ⌝ }
+    ensures { λ _. ⌜ now (samples .exit) ≡ decodeOf (now (block .entry)) (now (samples .entry)) .samples ⌝ }
+{
+    match decode_block(block, samples) {
+        SamplesResult::Ok(count) => {
+            *out = [0, count as u64];
+            0
+        }
+        SamplesResult::Err(e) => {
             *out = [e.place(), 0];
             e.number()
         }
