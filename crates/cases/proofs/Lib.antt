@@ -4,4 +4,5 @@ pub mod Orders
 pub mod Built
 pub mod Listed
 pub mod Pages
+pub mod Sounds
 pub mod Words

@@ -6,4 +6,5 @@ pub mod Orders
 pub mod Built
 pub mod Listed
 pub mod Pages
+pub mod Sounds
 pub mod Words
