@@ -65,6 +65,21 @@ pub fn print_bytes(bytes: &[u8]) {
     }
 }
 
+// A sample as the number of its 16 bits: 65,535 is -1.
+fn print_sample(sample: i16) {
+    let bits = (sample as i32 + 65536) as u32 % 65536;
+    print_number(bits as u64);
+}
+
+// Every sample as a number: what a call left of lent samples.
+pub fn print_samples(samples: &[i16]) {
+    let mut i = 0;
+    while i < samples.len() {
+        print_sample(samples[i]);
+        i += 1;
+    }
+}
+
 // A call's name, and the number that it returned.
 pub fn print_call(name: &[u8], number: u32) {
     io::write_all(STDOUT_FILENO, name);

@@ -10,6 +10,7 @@ use crate::print::print_16;
 use crate::print::print_bytes;
 use crate::print::print_call;
 use crate::print::print_end;
+use crate::print::print_samples;
 use listing::ROOM;
 use listing::list;
 ghost use mathlib.Core.Path.{_≡_};
@@ -20,6 +21,7 @@ ghost use lib.ListN.{length, take};
 ghost use Rattle.fields.specs.Le.{put};
 ghost use Rattle.chunk_index.specs.Index.{buildOf};
 ghost use Rattle.page.specs.Page.{printOf};
+ghost use Rattle.sound.specs.Sound.{decodeOf};
 ghost use Rattle.muxer.specs.Writer.{headerCall, packetCall, trailerCall};
 ghost use Rattle.capi.specs.Calls.{bufferAfterCall};
 ghost use Rattle.vectors.specs.Cases.{requestOf, tagsIn, walkerIn, writerIn, streamIn, lentAfter};
@@ -28,6 +30,11 @@ ghost use Rattle.vectors.specs.Cases.{requestOf, tagsIn, walkerIn, write
 const BYTES_ROOM: usize = 1024;
 
 const TAGS_ROOM: usize = 64;
+
+// The longest buffer of samples, and what each entry of it has before the call.
+const SAMPLES_ROOM: usize = 64;
+
+const KEPT: i16 = 77;
 
 fn least(a: usize, b: usize) -> usize
     ensures { λ r. ⌜ r ≡ min a b ⌝ }
@@ -156,6 +163,24 @@ fn run_print_index(table: &[u8], page: &mut [u8])
     print_end();
 }
 
+// Every entry is printed: one past the count must be as it was.
+fn run_samples(block: &[u8], samples: &mut [i16])
+    ensures { λ _. ⌜ now (samples .exit) ≡ decodeOf (now (block .entry)) (now (samples .entry)) .samples ⌝ }
+{
+    let mut out = [0u64; 2];
+    let number = capi::amv_decode_block(block, samples, &mut out);
+    print_call(b"decode_block", number);
+    print_2(out);
+    print_samples(samples);
+    print_end();
+}
+
+fn run_decode_block(block: &[u8], head: [u64; 12]) {
+    let mut samples = [KEPT; SAMPLES_ROOM];
+    let room = least(SAMPLES_ROOM, head[0] as usize);
+    run_samples(block, &mut samples[..room]);
+}
+
 fn writer_of(head: [u64; 12]) -> [u64; 9]
     ensures { λ r. ⌜ r ≡ writerIn head ⌝ }
 {
@@ -250,7 +275,9 @@ fn run_whole(function: usize, file: &[u8]) {
 }
 
 fn run_reading(function: usize, bytes: &[u8], head: [u64; 12]) {
-    if function >= Functions::SUMMARY {
+    if function == Functions::DECODE_BLOCK {
+        run_decode_block(bytes, head);
+    } else if function >= Functions::SUMMARY {
         run_whole(function, bytes);
     } else if function == Functions::PARSE {
         run_parse(bytes, head);
