@@ -1,4 +1,4 @@
-/* AMV recordings: read, index, jump, check and write them, and print the index.
+/* AMV recordings: read, index, jump, check and write them, print the index, and decode the sound.
  *
  * The functions of the proved library, for callers in C and C++. docs/FORMAT.md has the format, what each call gives for every argument, and
  * what is proved of whole lists of calls. Link libamv: ./build-library.sh makes target/lib/libamv.a and ./install.sh PREFIX installs it, for
@@ -11,10 +11,10 @@
  * out. A call writes every word of its `out`, whatever it returns. out[AMV_PLACE] is the place of a refusal: a byte offset in the file or the
  * table, or what the table of refusals says. On a refusal every other word is 0; on acceptance out[AMV_PLACE] is 0.
  *
- * A refused call changes nothing but `out`: no word of a state, no byte of a table or buffer.
+ * A refused call changes nothing but `out`: no word of a state, no byte of a table or buffer, no sample.
  *
  * Buffers. A buffer of length 0 may be NULL. Byte buffers need no alignment. No two buffers, states or outs of a call overlap. Lengths are in
- * bytes, but for amv_validate_movi_interleave, where they are in tags.
+ * bytes, but for amv_validate_movi_interleave, where they are in tags, and for samples_len of amv_decode_block, which is in samples.
  *
  * Cut. A file is cut where it ends before its trailer, at a chunk or inside one: the supply dropped while it was written. What stands before
  * can be read, indexed and jumped to.
@@ -34,8 +34,8 @@ extern "C" {
  * number while the first is 0, and an addition the third. */
 #define AMV_VERSION_MAJOR 0
 #define AMV_VERSION_MINOR 1
-#define AMV_VERSION_PATCH 1
-#define AMV_VERSION "0.1.1"
+#define AMV_VERSION_PATCH 2
+#define AMV_VERSION "0.1.2"
 
 /* A file's longest length in bytes; the bytes of a prelude, at whose end the first chunk stands. */
 #define AMV_FILE_LIMIT 4294967295
@@ -175,6 +175,23 @@ enum {
 enum { AMV_PAGE_LINES = 1, AMV_PAGE_WORDS };
 uint32_t amv_print_index(const uint8_t *table, size_t table_len, uint8_t *page, size_t page_len, uint64_t out[AMV_PAGE_WORDS]);
 
+/* The samples of a sound block, for a speaker: IMA ADPCM, a signed 16-bit number for each nibble, to the front of a buffer. Entries after the
+ * last sample stay as they are. The block is the payload of a sound packet. samples_len is the number of samples that the buffer holds;
+ * 2 * (len - AMV_BLOCK_NIBBLES) are always enough, whatever the block's count says. out: place, the number of samples, which may be 0.
+ * Refuses with 25, 71, 72 and 73. Each block is decoded by itself: one that is refused can be left out, and the next one decoded.
+ *
+ * A block has the starting level, signed (2 bytes), the step index (1), a byte that is ignored, the count of samples (4), little-endian, and
+ * then the nibbles, two in a byte, the high one first. The starting level is not a sample. Bytes after the last nibble are ignored. The names
+ * AMV_BLOCK_.. are where these start in a block. */
+enum {
+    AMV_BLOCK_LEVEL = 0,
+    AMV_BLOCK_STEP_INDEX = 2,
+    AMV_BLOCK_COUNT = 4,
+    AMV_BLOCK_NIBBLES = 8
+};
+enum { AMV_DECODE_COUNT = 1, AMV_DECODE_WORDS };
+uint32_t amv_decode_block(const uint8_t *block, size_t len, int16_t *samples, size_t samples_len, uint64_t out[AMV_DECODE_WORDS]);
+
 /* How many frames and blocks a file has, by its index walk: as many as its index has records of each kind. out: place, frames, blocks.
  * Refuses with 10 and 31. */
 enum { AMV_SUMMARY_FRAMES = 1, AMV_SUMMARY_BLOCKS, AMV_SUMMARY_WORDS };
@@ -218,7 +235,7 @@ uint32_t amv_from_frame_count(uint64_t frames, uint32_t fps);
 #endif
 
 /* Refusals. "60 at 4711" is number 60 with out[AMV_PLACE] 4711: look up the question that was answered with no, and what the place means. A
- * row has the number, its name, the question and the place. 25 to 29 are asked inside the library, and no function above returns them. */
+ * row has the number, its name, the question and the place. 26 to 29 are asked inside the library, and no function above returns them. */
 #define AMV_REFUSALS(ROW) \
     ROW(1, AMV_ERROR_ILLEGAL_STATE, \
         "Is each word of the state in its field's range: marks 0 or 1, width, height, fps and rate within 32 bits, channels within 16?", \
@@ -270,7 +287,11 @@ uint32_t amv_from_frame_count(uint64_t frames, uint32_t fps);
     ROW(64, AMV_ERROR_OTHER_AT_POSITION, "Is every tag a picture's or sound's?", "its position") \
     ROW(65, AMV_ERROR_ODD_CHUNK_COUNT, "Is the number of tags even?", "the number of tags") \
     /* the page */ \
-    ROW(70, AMV_ERROR_SAMPLES_TOO_WIDE, "Has the number of samples before the record at most 18 digits?", "the record's start in the table")
+    ROW(70, AMV_ERROR_SAMPLES_TOO_WIDE, "Has the number of samples before the record at most 18 digits?", "the record's start in the table") \
+    /* the sound block */ \
+    ROW(71, AMV_ERROR_STEP_INDEX_TOO_LARGE, "Is the block's step index at most 88?", "2") \
+    ROW(72, AMV_ERROR_NIBBLES_MISSING, "Is the block's sample count at most twice the bytes after its preamble?", "4") \
+    ROW(73, AMV_ERROR_SAMPLE_BUFFER_TOO_SHORT, "Does the buffer hold all samples of the block?", "0")
 
 #define AMV_NUMBER_OF(number, name, question, place) name = number,
 enum { AMV_REFUSALS(AMV_NUMBER_OF) };

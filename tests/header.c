@@ -1,7 +1,8 @@
 /*
- * Holds the names of include/amv.h against the library: every word of a state and of an out and every field of a record and of a line, on
- * inputs in which each has another value, the tags and streams, and some of the numbers. The numbers and texts of all refusals and the file
- * limit are held against the source by bindings/rust/tests/signatures.rs. Both C99 and C++11, so that the header is compiled as both.
+ * Holds the names of include/amv.h against the library: every word of a state and of an out and every field of a record, of a line and of a
+ * sound block, on inputs in which each has another value, the tags and streams, and some of the numbers. The numbers and texts of all
+ * refusals and the file limit are held against the source by bindings/rust/tests/signatures.rs. Both C99 and C++11, so that the header is
+ * compiled as both.
  */
 #include <stdio.h>
 #include <string.h>
@@ -240,6 +241,82 @@ static void print_index(void)
     EXPECT(2 * AMV_ENTRY_LEN, out[AMV_PLACE]);
 }
 
+/* A block of two bytes of nibbles, which are 7, 15, 8 and 0. */
+enum { BLOCK_LEN = AMV_BLOCK_NIBBLES + 2 };
+
+static void make_block(uint8_t block[BLOCK_LEN], int16_t level, uint8_t step_index, uint32_t samples)
+{
+    memset(block, 0xEE, BLOCK_LEN); /* the ignored byte */
+    put(block + AMV_BLOCK_LEVEL, (uint16_t)level, 2);
+    put(block + AMV_BLOCK_STEP_INDEX, step_index, 1);
+    put(block + AMV_BLOCK_COUNT, samples, 4);
+    block[AMV_BLOCK_NIBBLES] = 0x7F;
+    block[AMV_BLOCK_NIBBLES + 1] = 0x80;
+}
+
+/* An entry that no block here gives, and as many entries as the buffer of the tests has: one more than a block's nibbles. */
+enum { UNTOUCHED = -12345, ENTRIES = 5 };
+
+/* Decodes to a buffer of that length, which is left as it was where the call is refused; what is past the count is always left. */
+static uint32_t decode_to(int16_t samples[ENTRIES], const uint8_t *block, size_t block_len, size_t samples_len, uint64_t out[AMV_DECODE_WORDS])
+{
+    for (int i = 0; i < ENTRIES; i++)
+        samples[i] = UNTOUCHED;
+    uint32_t number = amv_decode_block(block, block_len, samples, samples_len, out);
+    if (number != AMV_OK)
+        EXPECT(0, out[AMV_DECODE_COUNT]);
+    for (uint64_t i = out[AMV_DECODE_COUNT]; i < ENTRIES; i++)
+        EXPECT(UNTOUCHED, samples[i]);
+    return number;
+}
+
+static void decode_block(void)
+{
+    uint8_t block[BLOCK_LEN];
+    int16_t samples[ENTRIES];
+    uint64_t out[AMV_DECODE_WORDS] = {7, 7};
+    make_block(block, 1000, 16, 4);
+    EXPECT(AMV_OK, decode_to(samples, block, BLOCK_LEN, 4, out));
+    EXPECT(0, out[AMV_PLACE]);
+    EXPECT(4, out[AMV_DECODE_COUNT]);
+    EXPECT(1063, samples[0]);
+    EXPECT(927, samples[1]);
+    EXPECT(908, samples[2]);
+    EXPECT(925, samples[3]);
+    /* A count that ends between the two nibbles of a byte. */
+    make_block(block, -1000, 16, 3);
+    EXPECT(AMV_OK, decode_to(samples, block, BLOCK_LEN, ENTRIES, out));
+    EXPECT(3, out[AMV_DECODE_COUNT]);
+    EXPECT(-937, samples[0]);
+    EXPECT(-1092, samples[2]);
+    /* Samples are held within 16 bits. */
+    make_block(block, INT16_MAX, 88, 2);
+    EXPECT(AMV_OK, decode_to(samples, block, BLOCK_LEN, 2, out));
+    EXPECT(INT16_MAX, samples[0]);
+    EXPECT(-28669, samples[1]);
+    make_block(block, INT16_MIN, 88, 3);
+    block[AMV_BLOCK_NIBBLES] = 0xF7;
+    EXPECT(AMV_OK, decode_to(samples, block, BLOCK_LEN, 3, out));
+    EXPECT(INT16_MIN, samples[0]);
+    EXPECT(28668, samples[1]);
+    /* No samples need no nibbles and no buffer. */
+    make_block(block, 0, 0, 0);
+    EXPECT(AMV_OK, amv_decode_block(block, AMV_BLOCK_NIBBLES, NULL, 0, out));
+    EXPECT(0, out[AMV_DECODE_COUNT]);
+    /* Each question before the ones that are asked after it. */
+    make_block(block, 0, 89, 5);
+    EXPECT(AMV_ERROR_PREAMBLE_TOO_SHORT, decode_to(samples, block, AMV_BLOCK_NIBBLES - 1, 4, out));
+    EXPECT(0, out[AMV_PLACE]);
+    EXPECT(AMV_ERROR_STEP_INDEX_TOO_LARGE, decode_to(samples, block, BLOCK_LEN, 4, out));
+    EXPECT(2, out[AMV_PLACE]);
+    make_block(block, 0, 88, 5);
+    EXPECT(AMV_ERROR_NIBBLES_MISSING, decode_to(samples, block, BLOCK_LEN, 4, out));
+    EXPECT(4, out[AMV_PLACE]);
+    make_block(block, 0, 88, 4);
+    EXPECT(AMV_ERROR_SAMPLE_BUFFER_TOO_SHORT, decode_to(samples, block, BLOCK_LEN, 3, out));
+    EXPECT(0, out[AMV_PLACE]);
+}
+
 static void check(void)
 {
     uint64_t out[AMV_CHECK_WORDS];
@@ -285,6 +362,7 @@ int main(void)
     reads();
     index_and_jump();
     print_index();
+    decode_block();
     check();
     texts();
     others();

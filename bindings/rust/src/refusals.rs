@@ -80,4 +80,8 @@ refusals! {
     (65, ODD_CHUNK_COUNT, "Is the number of tags even?", "the number of tags"),
     // The page
     (70, SAMPLES_TOO_WIDE, "Has the number of samples before the record at most 18 digits?", "the record's start in the table"),
+    // The sound block
+    (71, STEP_INDEX_TOO_LARGE, "Is the block's step index at most 88?", "2"),
+    (72, NIBBLES_MISSING, "Is the block's sample count at most twice the bytes after its preamble?", "4"),
+    (73, SAMPLE_BUFFER_TOO_SHORT, "Does the buffer hold all samples of the block?", "0"),
 }

@@ -38,6 +38,14 @@ unsafe extern "C" {
         page_len: usize,
         out: *mut [u64; 2],
     ) -> u32;
+    /// The samples of a sound block, and their number; the buffer's length is in samples. Refuses with 25, 71, 72 and 73.
+    pub fn amv_decode_block(
+        block: *const u8,
+        len: usize,
+        samples: *mut i16,
+        samples_len: usize,
+        out: *mut [u64; 2],
+    ) -> u32;
     /// How many frames and blocks a file has. Refuses with 10 and 31.
     pub fn amv_summary(file: *const u8, len: usize, out: *mut [u64; 3]) -> u32;
     /// The totals of a finished recording. Refuses with 10 to 24, 60, 61 and 31.

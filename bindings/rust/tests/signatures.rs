@@ -112,6 +112,7 @@ fn of_binding() -> Functions {
                     "*const u8" => format!("const uint8_t *{name}"),
                     "*const u32" => format!("const uint32_t *{name}"),
                     "*mut u8" => format!("uint8_t *{name}"),
+                    "*mut i16" => format!("int16_t *{name}"),
                     "usize" => format!("size_t {name}"),
                     "u64" => format!("uint64_t {name}"),
                     "u32" => format!("uint32_t {name}"),
@@ -143,9 +144,9 @@ fn of_source() -> Functions {
             assert!(after.starts_with("-> u32 "), "{name} returns {after}");
             let parameters = parameters.iter().flat_map(|p| {
                 let (name, of) = p.split_once(": ").expect("a parameter has a type");
-                // The lengths of a file and of the buffer to write to are called `len`, of tags `count`.
+                // The lengths of a file, of a block and of the buffer to write to are called `len`, of tags `count`.
                 let len = match name {
-                    "file" | "buf" => "size_t len".to_string(),
+                    "file" | "block" | "buf" => "size_t len".to_string(),
                     "tags" => "size_t count".to_string(),
                     name => format!("size_t {name}_len"),
                 };
@@ -153,6 +154,7 @@ fn of_source() -> Functions {
                     "&[u8]" => vec![format!("const uint8_t *{name}"), len],
                     "&[u32]" => vec![format!("const uint32_t *{name}"), len],
                     "&mut [u8]" => vec![format!("uint8_t *{name}"), len],
+                    "&mut [i16]" => vec![format!("int16_t *{name}"), len],
                     "u64" => vec![format!("uint64_t {name}")],
                     "u32" => vec![format!("uint32_t {name}")],
                     "i64" => vec![format!("int64_t {name}")],
@@ -171,7 +173,7 @@ fn of_source() -> Functions {
 #[test]
 fn header_binding_and_source_agree() {
     let source = of_source();
-    assert_eq!(source.len(), 12, "the functions of the interface");
+    assert_eq!(source.len(), 13, "the functions of the interface");
     assert_eq!(
         of_header(),
         source,
@@ -279,7 +281,7 @@ fn refusals_of_source() -> Vec<(u32, String, Option<String>)> {
 #[test]
 fn refusals_agree() {
     let header = refusals_of_header();
-    assert_eq!(header.len(), 41, "the refusals");
+    assert_eq!(header.len(), 44, "the refusals");
     assert_eq!(refusals_of_binding(), header, "refusals.rs and amv.h");
     assert_eq!(refusals_of_format(), header, "docs/FORMAT.md and amv.h");
     let by_source: Vec<_> = header
@@ -330,6 +332,11 @@ fn version_and_limits_agree() {
             "AMV_PAGE_COLUMNS",
             "crates/page/src/lib.rt",
             "const COLUMNS: usize =",
+        ),
+        (
+            "AMV_BLOCK_NIBBLES",
+            "crates/parse/src/preamble.rt",
+            "const AMV_AUDIO_PREAMBLE_LEN: u64 =",
         ),
         (
             "AMV_VIDEO_CHUNK_TAG",
