@@ -269,6 +269,62 @@ pub fn print_index(table: &[u8], page: &mut [u8]) -> Result<usize> {
     answer(number, out).map(|w| w[1] as usize)
 }
 
+/// The bytes of a sound block before its nibbles: starting level, step index, a byte that is ignored, and count.
+pub const AMV_AUDIO_PREAMBLE_LEN: usize = 8;
+
+/// Decodes a sound block, which is the payload of a sound packet, to the front of a lent buffer, and gives the number of samples; the entries
+/// after them stay. Two for each byte after the block's preamble are always enough, whatever its count says. Refuses with 25, 71, 72 and 73.
+///
+/// ```
+/// // The starting level 1000, the step index 16, the count 4, and the nibbles 7, 15, 8 and 0.
+/// let block = [0xE8, 0x03, 16, 0, 4, 0, 0, 0, 0x7F, 0x80];
+/// let mut samples = [0; 6];
+/// assert_eq!(amv::decode_block(&block, &mut samples), Ok(4));
+/// assert_eq!(samples, [1063, 927, 908, 925, 0, 0]);
+/// let refused = amv::decode_block(&block, &mut samples[..3]).unwrap_err();
+/// assert_eq!(refused.number, amv::AmvError::SAMPLE_BUFFER_TOO_SHORT);
+/// ```
+pub fn decode_block(block: &[u8], samples: &mut [i16]) -> Result<usize> {
+    let mut out = [0; 2];
+    let number = unsafe {
+        sys::amv_decode_block(
+            block.as_ptr(),
+            block.len(),
+            samples.as_mut_ptr(),
+            samples.len(),
+            &mut out,
+        )
+    };
+    answer(number, out).map(|w| w[1] as usize)
+}
+
+/// The samples of a sound block, in a buffer of their own. Its size goes by the block's bytes and not by its count, so a count that is wrong
+/// takes no memory. Refuses with 25, 71 and 72.
+///
+/// ```
+/// # let mut file = vec![0; 400];
+/// # let settings = amv::Settings { width: 8, height: 8, fps: 12, rate: 8000, channels: 1 };
+/// # let mut muxer = amv::AmvMuxer::new(settings, &mut file);
+/// # muxer.write_header()?;
+/// # muxer.write_packet(&[0xE8, 0x03, 16, 0, 4, 0, 0, 0, 0x7F, 0x80], 1)?;
+/// # muxer.write_trailer()?;
+/// let mut demuxer = amv::AmvDemuxer::open(&file)?;
+/// while let Some(packet) = demuxer.next_packet()? {
+///     if packet.stream_index == 1 {
+///         let samples = amv::block_samples(packet.data)?;
+///         assert_eq!(samples, [1063, 927, 908, 925]);
+///     }
+/// }
+/// # Ok::<(), amv::AmvError>(())
+/// ```
+pub fn block_samples(block: &[u8]) -> Result<Vec<i16>> {
+    let most = 2 * block.len().saturating_sub(AMV_AUDIO_PREAMBLE_LEN);
+    let mut samples = vec![0; most];
+    let count = decode_block(block, &mut samples)?;
+    samples.truncate(count);
+    Ok(samples)
+}
+
 /// The words of a walker.
 const CURSOR: usize = 0;
 const FRAMES: usize = 1;

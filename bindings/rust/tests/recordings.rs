@@ -280,6 +280,103 @@ fn a_page_is_printed_to_lent_bytes_or_left_as_it_was() {
     }
 }
 
+/// A sound block from its fields; the byte that is ignored is not 0.
+fn sound(level: i16, step_index: u8, count: u32, nibbles: &[u8]) -> Vec<u8> {
+    let mut bytes = level.to_le_bytes().to_vec();
+    bytes.extend([step_index, 0xEE]);
+    bytes.extend(count.to_le_bytes());
+    bytes.extend(nibbles);
+    bytes
+}
+
+#[test]
+fn a_block_gives_a_sample_for_each_nibble() {
+    // Every nibble once: by magnitude up, and then down.
+    let all = [0x01, 0x23, 0x45, 0x67, 0x89, 0xAB, 0xCD, 0xEF];
+    let expected = [
+        0, 1, 4, 8, 15, 27, 47, 88, 82, 66, 41, 10, -28, -84, -181, -380,
+    ];
+    let mut samples = [7; 20];
+    assert_eq!(decode_block(&sound(0, 0, 16, &all), &mut samples), Ok(16));
+    assert_eq!(samples[..16], expected);
+    assert_eq!(samples[16..], [7; 4]);
+    // A smaller count gives the first of them, from either half of a byte, and the rest of the buffer stays.
+    for count in 0..=16 {
+        let block = sound(0, 0, count as u32, &all);
+        let mut samples = [7; 20];
+        assert_eq!(decode_block(&block, &mut samples), Ok(count));
+        assert_eq!(samples[..count], expected[..count]);
+        assert_eq!(samples[count..], [7; 20][count..]);
+        assert_eq!(block_samples(&block).unwrap(), expected[..count]);
+    }
+    // Levels are held within 16 bits, the step index within its table.
+    let loud = block_samples(&sound(i16::MAX, 88, 4, &[0x7F, 0xFF]));
+    assert_eq!(loud.unwrap(), [i16::MAX, -28669, i16::MIN, i16::MIN]);
+    let still = block_samples(&sound(i16::MIN, 0, 4, &[0x88, 0x88]));
+    assert_eq!(still.unwrap(), [i16::MIN; 4]);
+    // A count of 0 is accepted, with and without nibbles, and needs no buffer.
+    assert_eq!(decode_block(&sound(5, 88, 0, &[]), &mut []), Ok(0));
+    assert_eq!(block_samples(&sound(5, 88, 0, &all)), Ok(Vec::new()));
+}
+
+#[test]
+fn samples_move_by_no_more_than_the_starting_level() {
+    let nibbles: Vec<u8> = (0..500u32).map(|n| (n * n * 7 + n * 13) as u8).collect();
+    for (from, to) in [(0i16, 1), (-32768, 32767), (-5000, 9000), (30000, 32767)] {
+        let samples = |level| block_samples(&sound(level, 30, 1000, &nibbles)).unwrap();
+        let most = (i32::from(from) - i32::from(to)).abs();
+        for (a, b) in samples(from).into_iter().zip(samples(to)) {
+            assert!((i32::from(a) - i32::from(b)).abs() <= most);
+        }
+    }
+}
+
+#[test]
+fn a_block_that_is_refused_leaves_the_buffer() {
+    let good = sound(0, 88, 4, &[0x7F, 0x80]);
+    let all_wrong = sound(0, 89, 5, &[0x7F, 0x80]);
+    let missing = sound(0, 88, 5, &[0x7F, 0x80]);
+    let most = sound(0, 88, u32::MAX, &[0x7F, 0x80]);
+    for (block, number, place) in [
+        (&all_wrong[..7], AmvError::PREAMBLE_TOO_SHORT, 0),
+        (&[], AmvError::PREAMBLE_TOO_SHORT, 0),
+        (&all_wrong[..], AmvError::STEP_INDEX_TOO_LARGE, 2),
+        (&missing[..], AmvError::NIBBLES_MISSING, 4),
+        (&most[..], AmvError::NIBBLES_MISSING, 4),
+        (&good[..8], AmvError::NIBBLES_MISSING, 4),
+        (&good[..], AmvError::SAMPLE_BUFFER_TOO_SHORT, 0),
+    ] {
+        // A sample too short for four, which is asked last.
+        let mut samples = [7; 5];
+        let refused = AmvError { number, place };
+        assert_eq!(decode_block(block, &mut samples[..3]), Err(refused));
+        assert_eq!(samples, [7; 5]);
+        // A buffer of the block's own is long enough.
+        let left = (number != AmvError::SAMPLE_BUFFER_TOO_SHORT).then_some(refused);
+        assert_eq!(block_samples(block).err(), left);
+    }
+}
+
+#[test]
+fn the_sound_of_a_recording_has_as_many_samples_as_the_check_says() {
+    let pattern = [0x33, 0xCB, 0xB4];
+    let packets: Vec<_> = (0..5u8)
+        .flat_map(|n| [(0, vec![n; 3]), (1, sound(0, 20 * n, 6, &pattern))])
+        .collect();
+    let file = write(&packets);
+    let mut demuxer = AmvDemuxer::open(&file).unwrap();
+    let mut heard = 0;
+    for packet in drain(&mut demuxer) {
+        if packet.stream_index == 1 {
+            let samples = block_samples(packet.data).unwrap();
+            assert_eq!(packet.duration, Some(samples.len() as u64));
+            assert_eq!(packet.pts, heard);
+            heard += samples.len() as u64;
+        }
+    }
+    assert_eq!(heard, check(&file).unwrap().samples);
+}
+
 #[test]
 fn a_refusal_says_its_question() {
     let file = small();
