@@ -4,6 +4,7 @@
  *   panel play FILE PICTURE   opens it, builds the index, jumps to a picture and plays on with the sound that belongs to it. Any file
  *                             with the format's layout will do: cut, damaged, or written by another program.
  *   panel print FILE          prints its index on the strip printer, to be pinned beside the vat.
+ *   panel hear FILE           decodes its sound block by block, and shows how loud each one is.
  *   panel check FILE          says whether it is a finished recording, before it is handed on or graded.
  */
 #include <inttypes.h>
@@ -221,6 +222,83 @@ static int print_index(const char *name)
     return printed ? 0 : 1;
 }
 
+/* The buffer that feeds the speaker. A block with more samples than it holds is refused with 73. */
+static int16_t speaker[65536];
+
+/* What has been heard. A level meter shows the least and the greatest sample, and means something where there are samples. */
+struct meter {
+    uint64_t samples;
+    int16_t least, greatest;
+};
+
+static void meter_sample(struct meter *meter, int16_t sample)
+{
+    if (meter->samples == 0 || sample < meter->least)
+        meter->least = sample;
+    if (meter->samples == 0 || sample > meter->greatest)
+        meter->greatest = sample;
+    meter->samples++;
+}
+
+static void show_meter(const char *what, const struct meter *meter)
+{
+    printf("%s: %" PRIu64 " samples", what, meter->samples);
+    if (meter->samples != 0)
+        printf(", %" PRId16 " to %" PRId16, meter->least, meter->greatest);
+    putchar('\n');
+}
+
+/* Decodes one block to the speaker's buffer, and shows its meter. A block that is refused has no samples: the others can be heard. */
+static bool hear_block(const uint8_t *block, size_t len, uint64_t n, struct meter *total)
+{
+    uint64_t out[AMV_DECODE_WORDS];
+    struct meter meter = {0, 0, 0};
+    char what[32];
+    snprintf(what, sizeof what, "block %" PRIu64, n);
+    uint32_t number = amv_decode_block(block, len, speaker, sizeof speaker / sizeof speaker[0], out);
+    if (number != AMV_OK) {
+        show_refusal(what, number, out);
+        return false;
+    }
+    for (uint64_t i = 0; i < out[AMV_DECODE_COUNT]; i++) {
+        meter_sample(&meter, speaker[i]);
+        meter_sample(total, speaker[i]);
+    }
+    show_meter(what, &meter);
+    return true;
+}
+
+/* Walks over all packets and hears the sound among them; answers whether every read and every block was accepted. */
+static bool hear_all(const struct recording *r, struct meter *total)
+{
+    uint64_t walker[AMV_WALKER_WORDS] = AMV_FRESH_WALKER, packet[AMV_PACKET_WORDS];
+    bool all = true;
+    for (;;) {
+        uint32_t number = amv_next_packet(r->file, r->len, walker, packet);
+        if (number != AMV_OK) {
+            show_refusal("read", number, packet);
+            return false;
+        }
+        if (!packet[AMV_PACKET_IS_PACKET])
+            return all;
+        if (packet[AMV_PACKET_STREAM] == AMV_STREAM_AUDIO &&
+            !hear_block(r->file + packet[AMV_PACKET_START], (size_t)packet[AMV_PACKET_LEN], walker[AMV_WALKER_BLOCKS] - 1, total))
+            all = false;
+    }
+}
+
+static int hear(const char *name)
+{
+    struct recording r;
+    struct meter total = {0, 0, 0};
+    if (!open_recording(name, &r))
+        return 1;
+    bool all = hear_all(&r, &total);
+    show_meter("total", &total);
+    free(r.file);
+    return all ? 0 : 1;
+}
+
 /* What must be finished is asked strictly: every field, every chunk, the trailer, nothing after it. */
 static int check(const char *name)
 {
@@ -245,8 +323,10 @@ int main(int argc, char **argv)
         return play(argv[2], strtoll(argv[3], NULL, 10));
     if (argc == 3 && strcmp(argv[1], "print") == 0)
         return print_index(argv[2]);
+    if (argc == 3 && strcmp(argv[1], "hear") == 0)
+        return hear(argv[2]);
     if (argc == 3 && strcmp(argv[1], "check") == 0)
         return check(argv[2]);
-    fprintf(stderr, "usage: panel play FILE PICTURE\n       panel print FILE\n       panel check FILE\n");
+    fprintf(stderr, "usage: panel play FILE PICTURE\n       panel print FILE\n       panel hear FILE\n       panel check FILE\n");
     return 2;
 }

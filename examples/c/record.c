@@ -26,14 +26,19 @@ static size_t picture(uint8_t *to, unsigned n)
     return sizeof bytes;
 }
 
-/* A sound block: four bytes of decoder state, the number of samples, and half a byte for each of them. */
-static size_t sound(uint8_t *to, unsigned samples)
+/* A sound block: the starting level 0, the step index, the number of samples, and half a byte for each of them. These are a hum: six of
+ * them lead level and step index back to where they were, and the larger the step index the louder it is. */
+static size_t sound(uint8_t *to, uint8_t step_index, unsigned samples)
 {
-    for (size_t i = 0; i < 8 + samples / 2; i++)
+    const uint8_t hum[] = {0x33, 0xCB, 0xB4};
+    for (size_t i = 0; i < AMV_BLOCK_NIBBLES; i++)
         to[i] = 0;
+    to[AMV_BLOCK_STEP_INDEX] = step_index;
     for (unsigned i = 0; i < 4; i++)
-        to[4 + i] = (uint8_t)(samples >> 8 * i);
-    return 8 + samples / 2;
+        to[AMV_BLOCK_COUNT + i] = (uint8_t)(samples >> 8 * i);
+    for (size_t i = 0; i < samples / 2; i++)
+        to[AMV_BLOCK_NIBBLES + i] = hum[i % sizeof hum];
+    return AMV_BLOCK_NIBBLES + samples / 2;
 }
 
 int main(int argc, char **argv)
@@ -50,7 +55,7 @@ int main(int argc, char **argv)
     for (unsigned n = 0; n < PICTURES; n++) {
         size_t len = picture(payload, n);
         must(amv_write_packet(writer, file, ROOM, payload, len, AMV_STREAM_VIDEO, out), out, "picture");
-        len = sound(payload, SAMPLES);
+        len = sound(payload, (uint8_t)(20 + 2 * n), SAMPLES);
         must(amv_write_packet(writer, file, ROOM, payload, len, AMV_STREAM_AUDIO, out), out, "sound");
     }
     must(amv_write_trailer(writer, file, ROOM, out), out, "trailer");

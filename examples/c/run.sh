@@ -1,6 +1,7 @@
 #!/bin/sh
 # Builds the library and the two programs; records; checks and plays the recording, one that was cut, one that is damaged, and one as
-# another program would write it; prints the index of the recording. Standard output is what expected.txt stores.
+# another program would write it; prints the index of the recording; hears it, and the start of one with a block that is refused. Standard
+# output is what expected.txt stores.
 set -eu
 root=$(dirname -- "$(readlink -f -- "$0")")/../..
 root=$(readlink -f -- "$root") me=example
@@ -30,3 +31,10 @@ for name in vat cut damaged other; do
 done
 echo
 ./panel print vat.amv
+echo
+./panel hear vat.amv
+# The second block has the step index 89, and the file is cut in the fifth.
+with_bytes index.amv 703 '\131'
+head -c 2000 index.amv >wrong.amv
+echo
+./panel hear wrong.amv || echo "(not all of it can be heard)"
