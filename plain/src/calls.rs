@@ -31,6 +31,12 @@ pub fn print_index(table: &[u8], page: &mut [u8]) -> Answer<u64> {
     crate::print_index(table, page)
 }
 
+/// The samples of a block.
+#[inline(never)]
+pub fn decode_block(block: &[u8], samples: &mut [i16]) -> Answer<u64> {
+    crate::decode_block(block, samples)
+}
+
 /// The check.
 #[inline(never)]
 pub fn check(file: &[u8]) -> Answer<Totals> {

@@ -295,6 +295,21 @@ pub unsafe extern "C" fn print_index(
     }
 }
 
+/// The samples of a block.
+#[inline(never)]
+pub unsafe extern "C" fn decode_block(
+    block: *const u8,
+    len: usize,
+    samples: *mut i16,
+    samples_len: usize,
+    out: *mut [u64; 2],
+) -> u32 {
+    unsafe {
+        let count = crate::decode_block(slice(block, len), slice_mut(samples, samples_len));
+        store(count, out, |count| [0, count])
+    }
+}
+
 /// The summary.
 #[inline(never)]
 pub unsafe extern "C" fn summary(file: *const u8, len: usize, out: *mut [u64; 3]) -> u32 {
