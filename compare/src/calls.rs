@@ -9,6 +9,7 @@ use crate::original::{self, Told};
 use crate::pages;
 use crate::rules::{self, Expected};
 use crate::said::{Said, Write, accepted, refused};
+use crate::sounds;
 use crate::tally::{Tally, hex};
 
 /// Whether the original agrees with what is expected of it. The rule that was needed is entered. Where the original cannot be
@@ -89,33 +90,37 @@ pub fn next_packet(
     plain
 }
 
-/// A lent buffer in the middle of a larger one, whose other bytes must stay.
-pub struct Guarded {
-    bytes: Vec<u8>,
+/// A lent buffer in the middle of a larger one, whose other entries must stay.
+pub struct Guarded<T> {
+    entries: Vec<T>,
     start: usize,
     end: usize,
 }
 
-impl Guarded {
+impl<T: Copy + PartialEq + From<u8>> Guarded<T> {
     /// The start varies with the contents, so that aligned and unaligned buffers are both lent.
-    pub fn new(contents: &[u8]) -> Self {
+    pub fn new(contents: &[T]) -> Self {
         let start = 8 + contents.len() % 8;
-        let mut bytes = vec![0x5a; start + contents.len() + 16];
+        let mut entries = vec![0x5a.into(); start + contents.len() + 16];
         let end = start + contents.len();
-        bytes[start..end].copy_from_slice(contents);
-        Self { bytes, start, end }
+        entries[start..end].copy_from_slice(contents);
+        Self {
+            entries,
+            start,
+            end,
+        }
     }
 
-    pub fn lent(&mut self) -> &mut [u8] {
-        &mut self.bytes[self.start..self.end]
+    pub fn lent(&mut self) -> &mut [T] {
+        &mut self.entries[self.start..self.end]
     }
 
     /// Whether the contents are these and nothing beside them was written.
-    pub fn holds(&self, contents: &[u8]) -> bool {
-        let beside = self.bytes[..self.start]
+    pub fn holds(&self, contents: &[T]) -> bool {
+        let mut beside = self.entries[..self.start]
             .iter()
-            .chain(&self.bytes[self.end..]);
-        self.bytes[self.start..self.end] == *contents && beside.copied().all(|byte| byte == 0x5a)
+            .chain(&self.entries[self.end..]);
+        self.entries[self.start..self.end] == *contents && beside.all(|entry| *entry == 0x5a.into())
     }
 }
 
@@ -280,6 +285,23 @@ pub fn print_index(tally: &mut Tally, table: &[u8], given: &[u8]) {
             hex(table),
             hex(&page),
             hex(lent.lent())
+        )
+    });
+}
+
+/// The samples of a block, into a lent buffer. The original does not decode: what is said of every block takes its place.
+pub fn decode_block(tally: &mut Tally, block: &[u8], given: &[i16]) {
+    let mut samples = given.to_vec();
+    let plain = PLAIN.decode_block(block, &mut samples);
+    let mut lent = Guarded::new(given);
+    let library = LIBRARY.decode_block(block, lent.lent());
+    let library_same = plain == library && lent.holds(&samples);
+    let stands = sounds::stands(block, given, library, lent.lent());
+    tally.judge("decode_block", library_same && stands, || {
+        format!(
+            "buffer {given:?} of block {}: plain {plain:?} {samples:?}, library {library:?} {:?}, stands {stands}",
+            hex(block),
+            lent.lent()
         )
     });
 }

@@ -21,6 +21,7 @@ pub struct Interface {
     seek_to_via_index:
         unsafe extern "C" fn(*const u8, usize, *mut WalkerWords, u32, i64, Out<2>) -> u32,
     print_index: Filling,
+    decode_block: unsafe extern "C" fn(*const u8, usize, *mut i16, usize, Out<2>) -> u32,
     summary: unsafe extern "C" fn(*const u8, usize, Out<3>) -> u32,
     check: unsafe extern "C" fn(*const u8, usize, Out<6>) -> u32,
     write_header: unsafe extern "C" fn(*mut WriterWords, *mut u8, usize, Out<1>) -> u32,
@@ -45,6 +46,7 @@ pub const LIBRARY: Interface = Interface {
     build_chunk_index: c::amv_build_chunk_index,
     seek_to_via_index: c::amv_seek_to_via_index,
     print_index: c::amv_print_index,
+    decode_block: c::amv_decode_block,
     summary: c::amv_summary,
     check: c::amv_check,
     write_header: c::amv_write_header,
@@ -61,6 +63,7 @@ pub const PLAIN: Interface = Interface {
     build_chunk_index: words::build_chunk_index,
     seek_to_via_index: words::seek_to_via_index,
     print_index: words::print_index,
+    decode_block: words::decode_block,
     summary: words::summary,
     check: words::check,
     write_header: words::write_header,
@@ -145,6 +148,11 @@ impl Interface {
 
     pub fn print_index(&self, table: &[u8], page: &mut [u8]) -> Said<2> {
         fill(self.print_index, table, page)
+    }
+
+    pub fn decode_block(&self, block: &[u8], samples: &mut [i16]) -> Said<2> {
+        let (to, room) = (start_mut(samples), samples.len());
+        with_out(|out| unsafe { (self.decode_block)(start(block), block.len(), to, room, out) })
     }
 
     pub fn summary(&self, file: &[u8]) -> Said<3> {

@@ -1,5 +1,5 @@
-//! Files, payloads and buffers at the file limit, and a printer's page and tables past it. Their memory is zero until
-//! written, so they take little of it.
+//! Files, payloads and buffers at the file limit, and a printer's page and tables, a sound block and its samples past
+//! it. Their memory is zero until written, so they take little of it.
 
 use plain::words::{WalkerWords, walker_words, writer_words};
 use plain::{FILE_LIMIT as LIMIT, PRELUDE, TRAILER, VIDEO, Walker, Writer};
@@ -29,6 +29,8 @@ pub fn suite(tally: &mut Tally) {
     long_payload(tally, &file);
     writes(tally, &mut file);
     pages(tally, &mut file);
+    long_block(tally, &mut file);
+    long_samples(tally, &mut file);
     tally.equal("write_packet", 52, original::write_by_value(file), || {
         "a payload past the limit".into()
     });
@@ -199,9 +201,11 @@ fn write_at_limit(tally: &mut Tally, given: &Writer, buf: &mut Vec<u8>, call: Wr
     }
 }
 
+/// The least length that needs more than 32 bits.
+const WRAPS: usize = 1 << 32;
+
 /// A page and tables whose lengths need more than 32 bits: what 32 bits keep of each would be answered otherwise.
 fn pages(tally: &mut Tally, bytes: &mut [u8]) {
-    const WRAPS: usize = 1 << 32;
     let record = plain::Record {
         tag: VIDEO,
         offset: 316,
@@ -223,4 +227,52 @@ fn pages(tally: &mut Tally, bytes: &mut [u8]) {
         let [plain, library] = [PLAIN, LIBRARY].map(|side| side.print_index(table, &mut []));
         judge(tally, "print_index", refused(number, 0), plain, library);
     }
+}
+
+/// A block whose length, or twice the bytes after its preamble, needs more than 32 bits: what 32 bits keep of either
+/// would be 25 or 72.
+fn long_block(tally: &mut Tally, bytes: &mut [u8]) {
+    for length in [WRAPS / 2 + 8, WRAPS, WRAPS + 7, WRAPS + 8] {
+        for count in [2, WRAPS / 2, WRAPS - 1] {
+            bytes[..8].copy_from_slice(&((count as u64) << 32).to_le_bytes());
+            bytes[8] = 0x7f;
+            let decode = |side: Interface| {
+                let mut samples = [0x3cc3; 3];
+                let said = side.decode_block(&bytes[..length], &mut samples);
+                (said, samples)
+            };
+            let expected = match count {
+                2 => (accepted(&[2]), [11, -19, 0x3cc3]),
+                _ => (refused(73, 0), [0x3cc3; 3]),
+            };
+            judge(
+                tally,
+                "decode_block",
+                expected,
+                decode(PLAIN),
+                decode(LIBRARY),
+            );
+        }
+    }
+}
+
+/// A buffer of samples whose bytes are more than 32 bits can count: what they keep would be 73.
+fn long_samples(tally: &mut Tally, bytes: &mut [u8]) {
+    let block = [0, 0, 0, 0, 4, 0, 0, 0, 0x7f, 0x08];
+    // SAFETY: any two bytes are a number.
+    let (_, samples, _) = unsafe { bytes.align_to_mut::<i16>() };
+    let samples = &mut samples[..WRAPS / 2 + 3];
+    let mut decode = |side: Interface| {
+        samples[..8].fill(0x3cc3);
+        let said = side.decode_block(&block, samples);
+        (said, samples[..5].to_vec())
+    };
+    let expected = (accepted(&[4]), vec![11, -19, -15, -18, 0x3cc3]);
+    judge(
+        tally,
+        "decode_block",
+        expected,
+        decode(PLAIN),
+        decode(LIBRARY),
+    );
 }

@@ -11,6 +11,7 @@ use crate::pages;
 use crate::pieces;
 use crate::random::Random;
 use crate::said::Write;
+use crate::sounds;
 use crate::tally::Tally;
 
 /// Everything that reads a file: both parses, the check, the summary, the index, and reads until the end.
@@ -38,6 +39,7 @@ pub fn movi(tally: &mut Tally, file: &[u8], table_slack: usize) {
         if said.number != 0 || said.out[1] == 0 {
             break;
         }
+        sounds::of_packet(tally, file, &said);
     }
     // Once more at the end.
     calls::next_packet(tally, &mut original, file, &mut walker);
@@ -48,6 +50,7 @@ pub fn exhaustive(tally: &mut Tally, random: &mut Random) {
     tag_lists(tally);
     run_lengths(tally);
     pages::short(tally);
+    sounds::short(tally);
     for _ in 0..20 {
         pieces::bodies(tally, random);
     }
@@ -130,6 +133,7 @@ pub fn round(tally: &mut Tally, random: &mut Random) {
     walkers(tally, random, &file);
     tables(tally, random);
     pages::round(tally, random);
+    sounds::round(tally, random);
     writers(tally, random);
     lists::writing_calls(tally, random);
     let file = files::finished(random);
