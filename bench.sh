@@ -8,8 +8,8 @@ usage() {
 ./bench.sh [RUNS | --quick]
 
 Times the library against a plain Rust program, RUNS times each (3001), then shows how drain and index grow with
-the file, to 1 GiB. --quick: 101 runs, and to 16 MiB. docs/SPEED.md says what the columns are. Needs cargo; no
-network.
+the file, to 1 GiB, and decoding with the block. --quick: 101 runs, and to 16 MiB. docs/SPEED.md says what the
+columns are. Needs cargo; no network.
 END
 }
 

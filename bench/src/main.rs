@@ -1,12 +1,12 @@
 //! Times the library against a plain Rust program, in one process, in turn. Prints medians and ratios, then how drain and index grow
-//! with the file.
+//! with the file and how decoding grows with the block.
 
 mod sides;
 
 use std::hint::black_box;
 use std::time::Instant;
 
-use plain::{LINE, PRELUDE, RECORD, calls};
+use plain::{LINE, PREAMBLE, PRELUDE, RECORD, calls};
 use sides::{CALLS, LIBRARY, Side, WORDS};
 
 /// The payload of the small frames.
@@ -29,6 +29,40 @@ fn recording(bytes: usize, paired: bool) -> Vec<u8> {
 
 fn chunks(file: &[u8]) -> usize {
     (file.len() - PRELUDE - 8) / (8 + FRAME)
+}
+
+/// The nibbles of the sound blocks.
+#[derive(Clone, Copy)]
+enum Nibbles {
+    /// Much as sound has them: one of three moves the step index up by two, the others down by one each.
+    Sound,
+    /// All values alike: the step index is mostly at its greatest, and the level often held.
+    Random,
+}
+
+/// So many sound blocks of that many samples, from a step index in the middle.
+fn sound_blocks(count: usize, samples: usize, nibbles: Nibbles) -> Vec<Vec<u8>> {
+    let mut state = 1u64;
+    let mut random = move || {
+        // A linear congruential generator, of which the high bits are taken.
+        state = state
+            .wrapping_mul(6_364_136_223_846_793_005)
+            .wrapping_add(1);
+        (state >> 60) as u8
+    };
+    let mut nibble = |i: usize| match nibbles {
+        Nibbles::Random => random(),
+        Nibbles::Sound if i.is_multiple_of(3) => random() & 8 | 4,
+        Nibbles::Sound => random() & 11,
+    };
+    let mut block = || {
+        let mut block = vec![0; PREAMBLE];
+        block[2] = 40;
+        block[4..].copy_from_slice(&(samples as u32).to_le_bytes());
+        block.extend((0..samples.div_ceil(2)).map(|i| nibble(2 * i) << 4 | nibble(2 * i + 1)));
+        block
+    };
+    (0..count).map(|_| block()).collect()
 }
 
 /// Seconds that a run takes, and its answer.
@@ -104,6 +138,17 @@ fn races(runs: usize) {
     race("page, frames and blocks", runs, count, |side| {
         (side.page)(&table, &mut page)
     });
+    for (name, nibbles) in [
+        ("sound, blocks of 1,000 samples", Nibbles::Sound),
+        ("sound, random nibbles", Nibbles::Random),
+    ] {
+        let mut samples = vec![0; 1000];
+        let blocks = sound_blocks(BYTES / (PREAMBLE + 500), samples.len(), nibbles);
+        let decoded = blocks.len() * samples.len();
+        race(name, runs, decoded, |side| {
+            (side.sound)(&blocks, &mut samples)
+        });
+    }
     race("check, 60 KiB of 16-byte frames", runs, count, |side| {
         (side.check)(&frames)
     });
@@ -147,6 +192,21 @@ fn growth(largest: usize) {
     }
 }
 
+/// The library alone, on a million samples in blocks of a thousand up to one block.
+fn sound_growth() {
+    const SAMPLES: usize = 1_000_000;
+    println!("{:>10} {:>17}", "samples", "sound, ns/sample");
+    for length in [1000, 10_000, 100_000, SAMPLES] {
+        let blocks = sound_blocks(SAMPLES / length, length, Nibbles::Sound);
+        let mut samples = vec![0; length];
+        let mut times: Vec<f64> = (0..21)
+            .map(|_| timed(|| (LIBRARY.sound)(&blocks, &mut samples)).0)
+            .collect();
+        let sound = median(&mut times) * 1e9 / SAMPLES as f64;
+        println!("{length:10} {sound:17.2}");
+    }
+}
+
 fn main() {
     let words: Vec<usize> = std::env::args()
         .skip(1)
@@ -158,4 +218,5 @@ fn main() {
     assert!(runs > 0, "RUNS is at least 1");
     races(runs);
     growth(largest);
+    sound_growth();
 }

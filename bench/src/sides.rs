@@ -10,6 +10,8 @@ pub struct Side {
     pub drain: fn(&[u8]) -> u64,
     pub seeks: fn(&[u8]) -> u64,
     pub page: fn(&[u8], &mut [u8]) -> u64,
+    /// Each of the blocks in turn into the same samples.
+    pub sound: fn(&[Vec<u8>], &mut [i16]) -> u64,
     pub check: fn(&[u8]) -> u64,
     pub write: fn(&mut [u8], usize, &[u8]) -> u64,
 }
@@ -31,9 +33,14 @@ fn fill(function: Filling, from: &[u8], to: &mut [u8]) -> u64 {
     out[1] + number as u64
 }
 
+/// The last sample, which depends on all before it.
+fn last_sample(samples: &[i16]) -> u64 {
+    samples.last().map_or(0, |sample| *sample as u16 as u64)
+}
+
 /// The two sides that have the C interface differ in the functions alone.
 macro_rules! side_of_words {
-    ($next:path, $index:path, $seek:path, $print:path, $check:path, $header:path, $packet:path, $trailer:path) => {
+    ($next:path, $index:path, $seek:path, $print:path, $decode:path, $check:path, $header:path, $packet:path, $trailer:path) => {
         Side {
             index: |file, table| fill($index, file, table),
             drain: |file| {
@@ -60,6 +67,16 @@ macro_rules! side_of_words {
                 sum
             },
             page: |table, page| fill($print, table, page),
+            sound: |blocks, samples| {
+                let decode = |block: &Vec<u8>| {
+                    let mut out = [0; 2];
+                    let (bytes, len) = (block.as_ptr(), block.len());
+                    let (to, room) = (samples.as_mut_ptr(), samples.len());
+                    let number = unsafe { $decode(bytes, len, to, room, &mut out) };
+                    out[1] + number as u64 + last_sample(samples)
+                };
+                blocks.iter().map(decode).sum()
+            },
             check: |file| {
                 let mut out = [0; 6];
                 let number = unsafe { $check(file.as_ptr(), file.len(), &mut out) };
@@ -87,6 +104,7 @@ pub const LIBRARY: Side = side_of_words!(
     c::amv_build_chunk_index,
     c::amv_seek_to_via_index,
     c::amv_print_index,
+    c::amv_decode_block,
     c::amv_check,
     c::amv_write_header,
     c::amv_write_packet,
@@ -98,6 +116,7 @@ pub const WORDS: Side = side_of_words!(
     words::build_chunk_index,
     words::seek_to_via_index,
     words::print_index,
+    words::decode_block_by_table,
     words::check,
     words::write_header,
     words::write_packet,
@@ -129,6 +148,13 @@ pub const CALLS: Side = Side {
         sum
     },
     page: |table, page| calls::print_index(table, page).unwrap(),
+    sound: |blocks, samples| {
+        let decode = |block: &Vec<u8>| {
+            let count = calls::decode_block_by_table(block, samples).unwrap();
+            count + last_sample(samples)
+        };
+        blocks.iter().map(decode).sum()
+    },
     check: |file| {
         let totals = calls::check(file).unwrap();
         let paired = totals.paired as u64;

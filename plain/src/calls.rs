@@ -33,8 +33,8 @@ pub fn print_index(table: &[u8], page: &mut [u8]) -> Answer<u64> {
 
 /// The samples of a block.
 #[inline(never)]
-pub fn decode_block(block: &[u8], samples: &mut [i16]) -> Answer<u64> {
-    crate::decode_block(block, samples)
+pub fn decode_block_by_table(block: &[u8], samples: &mut [i16]) -> Answer<u64> {
+    crate::decode_block_by_table(block, samples)
 }
 
 /// The check.

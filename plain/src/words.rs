@@ -310,6 +310,22 @@ pub unsafe extern "C" fn decode_block(
     }
 }
 
+/// The samples of a block by a table.
+#[inline(never)]
+pub unsafe extern "C" fn decode_block_by_table(
+    block: *const u8,
+    len: usize,
+    samples: *mut i16,
+    samples_len: usize,
+    out: *mut [u64; 2],
+) -> u32 {
+    unsafe {
+        let (block, samples) = (slice(block, len), slice_mut(samples, samples_len));
+        let count = crate::decode_block_by_table(block, samples);
+        store(count, out, |count| [0, count])
+    }
+}
+
 /// The summary.
 #[inline(never)]
 pub unsafe extern "C" fn summary(file: *const u8, len: usize, out: *mut [u64; 3]) -> u32 {
