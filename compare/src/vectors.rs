@@ -30,9 +30,10 @@ const SUMMARY: (u8, &str) = (10, "summary");
 const CHECK: (u8, &str) = (11, "check");
 const LISTING: (u8, &str) = (12, "listing");
 const PRINT_INDEX: (u8, &str) = (13, "print_index");
+const DECODE_BLOCK: (u8, &str) = (14, "decode_block");
 
 /// In the order of the counts that the program prints last.
-const FUNCTIONS: [(u8, &str); 13] = [
+const FUNCTIONS: [(u8, &str); 14] = [
     PARSE,
     NEXT_PACKET,
     BUILD_CHUNK_INDEX,
@@ -46,6 +47,7 @@ const FUNCTIONS: [(u8, &str); 13] = [
     CHECK,
     LISTING,
     PRINT_INDEX,
+    DECODE_BLOCK,
 ];
 
 /// Where the tags, sizes and bodies of a prelude start.
@@ -62,7 +64,7 @@ const CALLS: usize = 524_288;
 struct Cases {
     calls: Vec<u8>,
     printed: String,
-    counts: [u64; 14],
+    counts: [u64; 15],
     /// How many calls were not taken, since the original answers otherwise.
     left_out: u64,
 }

@@ -1,17 +1,17 @@
 //! Answers that the original does not have. Each is written out here from 01's text, those with number 1 from the
-//! header of the C interface, those of a page from 02's text; the plain implementation must answer the same before a
+//! header of the C interface, those of a page and of a sound block from 02's text; the plain implementation must answer the same before a
 //! case is stored, so that two readings of each text meet.
 
 use plain::words::{WalkerWords, WriterWords};
 use plain::{AUDIO, VIDEO};
 
 use super::{
-    BUILD_CHUNK_INDEX, CHECK, Call, Cases, LISTING, NEXT_PACKET, PARSE, PRINT_INDEX,
+    BUILD_CHUNK_INDEX, CHECK, Call, Cases, DECODE_BLOCK, LISTING, NEXT_PACKET, PARSE, PRINT_INDEX,
     SEEK_TO_VIA_INDEX, SUMMARY, request_words, written_parts,
 };
 use crate::interface::PLAIN;
 use crate::said::{Said, Write, accepted, refused};
-use crate::{files, listing};
+use crate::{files, listing, sounds};
 
 /// 2^62, and a number past it.
 const MOST: u64 = 4_611_686_018_427_387_904;
@@ -130,6 +130,22 @@ fn print_index(cases: &mut Cases, table: &[u8], room: usize, stated: Said<2>, li
         ..call_of(PRINT_INDEX, table)
     };
     cases.add(call, stated.number.into(), &stated.out, &after);
+}
+
+/// The samples of a block in a buffer of so many entries, each of which is 77 before the call: those past the count stay. The program prints a
+/// sample as the number of its 16 bits.
+fn decode_block(cases: &mut Cases, block: &[u8], room: usize, stated: Said<2>, samples: &[i16]) {
+    let after = [samples, &vec![77; room - samples.len()]].concat();
+    let mut lent = vec![77; room];
+    let said = PLAIN.decode_block(block, &mut lent);
+    assert_eq!((said, &lent), (stated, &after));
+    let call = Call {
+        parameters: [room as u64, 0, 0],
+        ..call_of(DECODE_BLOCK, block)
+    };
+    let bits = after.iter().map(|sample| u64::from(*sample as u16));
+    let words: Vec<u64> = stated.out.into_iter().chain(bits).collect();
+    cases.add(call, stated.number.into(), &words, &[]);
 }
 
 /// A refused writing call: every word of the state and every byte of the buffer stays.
@@ -591,6 +607,59 @@ fn refused_pages(cases: &mut Cases) {
     }
 }
 
+/// Blocks whose samples are written out, in buffers that they fill and in longer ones.
+fn blocks(cases: &mut Cases) {
+    for (block, samples) in sounds::WRITTEN_OUT {
+        for room in [samples.len(), samples.len() + 2] {
+            let count = accepted(&[samples.len() as u64]);
+            decode_block(cases, block, room, count, samples);
+        }
+    }
+    // The same nibbles from two starting levels: 5 apart, and where the rail holds both, not at all.
+    let nibbles = [0, 0, 88, 0, 2, 0, 0, 0, 0x07];
+    for (level, samples) in [(0, [4095, 32767]), (5, [4100, 32767])] {
+        let mut block = nibbles;
+        block[0] = level;
+        decode_block(cases, &block, 2, accepted(&[2]), &samples);
+    }
+    // As many samples as nibbles, and one fewer: the last nibble is free. Byte 3 and bytes after the nibbles are free too.
+    decode_block(
+        cases,
+        &[0, 0, 0, 0xff, 4, 0, 0, 0, 0x11, 0x22],
+        4,
+        accepted(&[4]),
+        &[1, 2, 5, 8],
+    );
+    decode_block(
+        cases,
+        &[0, 0, 0, 0, 3, 0, 0, 0, 0x11, 0x22, 0xff, 0xff],
+        4,
+        accepted(&[3]),
+        &[1, 2, 5],
+    );
+}
+
+/// Each number of a block alone, and the first of several.
+fn refused_blocks(cases: &mut Cases) {
+    let mut refuse = |block: &[u8], room, number, place| {
+        decode_block(cases, block, room, refused(number, place), &[]);
+    };
+    for length in [0, 7] {
+        refuse(&[0xff; 7][..length], 1, 25, 0);
+    }
+    for step_index in [89, 255] {
+        refuse(&[0, 0, step_index, 0, 1, 0, 0, 0, 0], 1, 71, 2);
+        refuse(&[0, 0, step_index, 0, 9, 0, 0, 0, 0], 0, 71, 2);
+    }
+    refuse(&[0, 0, 88, 0, 1, 0, 0, 0], 1, 72, 4);
+    refuse(&[0, 0, 88, 0, 3, 0, 0, 0, 0], 3, 72, 4);
+    refuse(&[0, 0, 88, 0, 3, 0, 0, 0, 0], 0, 72, 4);
+    refuse(&[0, 0, 88, 0, 0, 0, 0, 0x80, 0], 3, 72, 4);
+    refuse(&[0, 0, 88, 0, 255, 255, 255, 255, 0], 3, 72, 4);
+    refuse(&[0, 0, 88, 0, 2, 0, 0, 0, 0], 1, 73, 0);
+    refuse(&[0, 0, 88, 0, 1, 0, 0, 0, 0], 0, 73, 0);
+}
+
 /// The writer of E with these words: begun, ended, bytes written, frames.
 fn writer([begun, ended, written, frames]: [u64; 4]) -> WriterWords {
     [8, 8, 12, 8000, 1, begun, ended, written, frames]
@@ -704,6 +773,8 @@ pub fn all(cases: &mut Cases) {
     indexes_and_jumps(cases);
     pages(cases);
     refused_pages(cases);
+    blocks(cases);
+    refused_blocks(cases);
     writes(cases);
     listings(cases);
 }
