@@ -34,8 +34,10 @@ fn chunks(file: &[u8]) -> usize {
 /// The nibbles of the sound blocks.
 #[derive(Clone, Copy)]
 enum Nibbles {
-    /// Much as sound has them: one of three moves the step index up by two, the others down by one each.
+    /// Made up for sound: one of three moves the step index up by two, the others down by one each, so that it stays about where it is.
     Sound,
+    /// Made up for silence: none moves the step index up, so that it is held at 0.
+    Quiet,
     /// All values alike: the step index is mostly at its greatest, and the level often held.
     Random,
 }
@@ -53,7 +55,7 @@ fn sound_blocks(count: usize, samples: usize, nibbles: Nibbles) -> Vec<Vec<u8>> 
     let mut nibble = |i: usize| match nibbles {
         Nibbles::Random => random(),
         Nibbles::Sound if i.is_multiple_of(3) => random() & 8 | 4,
-        Nibbles::Sound => random() & 11,
+        Nibbles::Sound | Nibbles::Quiet => random() & 11,
     };
     let mut block = || {
         let mut block = vec![0; PREAMBLE];
@@ -140,6 +142,7 @@ fn races(runs: usize) {
     });
     for (name, nibbles) in [
         ("sound, blocks of 1,000 samples", Nibbles::Sound),
+        ("sound, near silence", Nibbles::Quiet),
         ("sound, random nibbles", Nibbles::Random),
     ] {
         let mut samples = vec![0; 1000];

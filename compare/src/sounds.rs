@@ -99,7 +99,7 @@ pub fn short(tally: &mut Tally) {
     many_samples(tally);
 }
 
-/// Blocks with their samples, worked out by hand from the request.
+/// Blocks with their samples, written out.
 pub const WRITTEN_OUT: [(&[u8], &[i16]); 10] = [
     // The block of 01's small file E: 7/8 + 7/4, and the step index stays at 0.
     (&[0, 0, 0, 0, 2, 0, 0, 0, 0x11, 0x22], &[1, 2]),
