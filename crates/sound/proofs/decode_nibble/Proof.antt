@@ -12,7 +12,7 @@ use borrow.Author.Needs.{needs}
 use borrow.Author.Tests.{le-ltb, leb-true, ltb-true}
 use Rattle.error.proofs.Answers.{both}
 use Rattle.sound.specs.Sound.{decodeNibble, heldLevel, levelAfter, movedBy, rise, steps}
-use Rattle.sound.specs.Steps.{Legal, Level, Rises, Row, decoderOf, heldRow, inside, levelOf, rowMove}
+use Rattle.sound.specs.Steps.{Legal, Level, Rises, Row, RowMoves, decoderOf, heldRow, inside, levelOf, rowMove}
 use Rattle.sound.specs.declared.State.{State}
 use Rattle.sound.proofs.Levels.{held-sub, within-inside}
 use Rattle.sound.proofs.Rows.{index-after, row-held, row-move-whole}
@@ -49,11 +49,18 @@ module _
     row-is : held-row ≡ heldRow (s .row + rowMove (nibble % 8))
     row-is = is-row ∙ ap (λ (n : ℕ). heldRow (s .row + n)) shift
 
-    stepped : decoderOf (record { level = held-level; row = held-row }) ≡ decodeNibble nibble (decoderOf s)
-    stepped = λ i. record { level = level-stepped i; index = (ap (λ (n : ℕ). n / 8) row-is ∙ index-after (s .row) (l .row) nibble) i }
+    stepped : (decoderOf (record { level = held-level; row = held-row }) ≡ decodeNibble nibble (decoderOf s))
+        × Legal (record { level = held-level; row = held-row })
+    stepped = (
+      λ i. record { level = level-stepped i; index = (ap (λ (n : ℕ). n / 8) row-is ∙ index-after (s .row) (l .row) nibble) i },
+      record { level = level-legal; row = rw row-is (row-held (s .row) (nibble % 8) (l .row) (omega arith)) },
+    )
 
-    legal : Legal (record { level = held-level; row = held-row })
-    legal = record { level = level-legal; row = rw row-is (row-held (s .row) (nibble % 8) (l .row) (omega arith)) }
+-- what is added to a row is small
+move-small : (table : List ℕ) (nibble : ℕ) → RowMoves table → getD table (nibble % 8) 0 ≤ 72
+move-small table nibble m =
+    let e = m .rule (nibble % 8) (omega arith) in
+    omega (arith, row-move-whole (nibble % 8) (omega arith) .1)
 
 -- where both are inside, they are held as they are
 module _ (level moved : ℕ) (is : inside level moved ≡ true) where
@@ -102,16 +109,12 @@ shared-slice-read-moved c = search needs
 cast-moved : tie.Need-cast-moved
 cast-moved c =
     let s = c .before .before .before .before .before in
-    let e = s .pre .1 .1 .rule (s .args .nibble % 8) (omega arith) in
-    let small = row-move-whole (s .args .nibble % 8) (omega arith) .1 in
-    record { fits = omega arith }
+    record { fits = omega (arith, move-small (s .args .moves .now) (s .args .nibble) (s .pre .1 .1)) }
 
 add-moved : tie.Need-add-moved
 add-moved c =
     let s = c .before .before .before .before .before in
-    let e = s .pre .1 .1 .rule (s .args .nibble % 8) (omega arith) in
-    let small = row-move-whole (s .args .nibble % 8) (omega arith) .1 in
-    record { fits = omega arith }
+    record { fits = omega (arith, move-small (s .args .moves .now) (s .args .nibble) (s .pre .1 .1)) }
 
 is-inside-requires : tie.Need-is-inside-requires
 is-inside-requires c κs = search needs
@@ -135,10 +138,8 @@ returns c =
     let shift = s .pre .1 .1 .rule (a .nibble % 8) (omega arith) in
     let level-legal = legal-level level (a .state .row + move) is in
     let is-level = level-kept level (a .state .row + move) is in
-    let is-row = row-kept level (a .state .row + move) is in (
-      stepped (a .state) (a .nibble) (s .pre .0) level move by level (a .state .row + move - 8) moved risen shift is-level level-legal is-row,
-      legal (a .state) (a .nibble) (s .pre .0) level move by level (a .state .row + move - 8) moved risen shift is-level level-legal is-row,
-    )
+    let is-row = row-kept level (a .state .row + move) is in
+    stepped (a .state) (a .nibble) (s .pre .0) level move by level (a .state .row + move - 8) moved risen shift is-level level-legal is-row
 
 held-level-requires : tie.Need-held-level-requires
 held-level-requires c κs = search needs
@@ -157,10 +158,8 @@ returns-2 c =
     let risen = entry-is (a .rises .now) (a .state .row) (a .nibble) (s .pre .1 .0) (s .pre .0 .row) in
     let shift = s .pre .1 .1 .rule (a .nibble % 8) (omega arith) in
     let h = c .before .held-level in
-    let r = c .held-row in (
-      stepped (a .state) (a .nibble) (s .pre .0) level move by (h .result) (r .result) moved risen shift (h .ensures .0) (h .ensures .1) (r .ensures),
-      legal (a .state) (a .nibble) (s .pre .0) level move by (h .result) (r .result) moved risen shift (h .ensures .0) (h .ensures .1) (r .ensures),
-    )
+    let r = c .held-row in
+    stepped (a .state) (a .nibble) (s .pre .0) level move by (h .result) (r .result) moved risen shift (h .ensures .0) (h .ensures .1) (r .ensures)
 
 pub decode-nibble-spec : {M : Type 1} → statement M
 decode-nibble-spec =

@@ -1,10 +1,12 @@
 -- `sound::put_samples` meets its contract. The loop's invariant is `Putting`, and a turn is `next`; what is stored is what the sample's level
 -- is (`stored-is`).
 -- Assumes nothing.
-use mathlib.Core.Path.{_∙_}
-use Prim.Native.Nat.{_-_, _*_, _≤_}
+use mathlib.Core.Path.{_≡_, _∙_}
+use Prim.Native.Nat.{ℕ, _+_, _-_, _*_, _≤_}
 use native.Mathlib.Omega.{arith}
 use lib.ListN.{length, length-set}
+use mir.Syntax.{w64}
+use mir.Val.{Fits}
 use Rattle.sound.proofs.Levels.{stored-is}
 use Rattle.sound.proofs.Stores.{Putting, start, there, next, odd-end, even-end}
 use Rattle.sound.proofs.put_samples.Statement.{statement}
@@ -29,6 +31,10 @@ enough-of s = s .pre .1 .1 .1 .0
 room-of : (s : tie.Start Inv-loop μ-loop) → s .args .count ≤ length (s .args .samples .now)
 room-of s = s .pre .1 .1 .1 .1
 
+-- a buffer that holds the count has fewer than 2 ^ 63 bytes, so no place in it and none in its bytes leaves 64 bits
+in-room : (s : tie.Start Inv-loop μ-loop) (i left n : ℕ) → i + left ≡ s .args .count → n ≤ 2 * (i + left) → Fits w64 n
+in-room s i left n e h = let room = room-of s in record { fits = omega (arith, s .good .0) }
+
 shared-slice-read-byte : tie.Need-shared-slice-read-byte Inv-loop μ-loop
 shared-slice-read-byte c =
     there (c .before .before .loop .inv) (enough-of (c .before .before .before .before .before .before)) (omega arith)
@@ -49,9 +55,7 @@ sample-of-requires c κs = c .decode-nibble .ensures .1 .level
 mul-samples : tie.Need-mul-samples Inv-loop μ-loop
 mul-samples c =
     let l = c .before .before .before .before .loop in
-    let s = c .before .before .before .before .before .before .before .before in
-    let room = room-of s in
-    record { fits = omega (arith, s .good .0, l .inv .counted) }
+    in-room (c .before .before .before .before .before .before .before .before) (l .i) (l .left) _ (l .inv .counted) (omega arith)
 
 slice-set-from-samples : tie.Need-slice-set-from-samples Inv-loop μ-loop
 slice-set-from-samples c =
@@ -70,18 +74,14 @@ sample-of-requires-2 c κs = c .decode-nibble2 .ensures .1 .level
 add-t16 : tie.Need-add-t16 Inv-loop μ-loop
 add-t16 c =
     let l = c .before .before .before .before .before .before .loop in
-    let s = c .before .before .before .before .before .before .before .before .before .before in
-    let room = room-of s in
     let two = c .before .before .before .before .before .loop-test .taken in
-    record { fits = omega (arith, s .good .0, l .inv .counted) }
+    in-room (c .before .before .before .before .before .before .before .before .before .before) (l .i) (l .left) _ (l .inv .counted) (omega arith)
 
 mul-t19 : tie.Need-mul-t19 Inv-loop μ-loop
 mul-t19 c =
     let l = c .before .before .before .before .before .before .loop in
-    let s = c .before .before .before .before .before .before .before .before .before .before in
-    let room = room-of s in
     let two = c .before .before .before .before .before .loop-test .taken in
-    record { fits = omega (arith, s .good .0, l .inv .counted) }
+    in-room (c .before .before .before .before .before .before .before .before .before .before) (l .i) (l .left) _ (l .inv .counted) (omega arith)
 
 slice-set-from-samples-2 : tie.Need-slice-set-from-samples-2 Inv-loop μ-loop
 slice-set-from-samples-2 c =
@@ -99,10 +99,8 @@ add-at c =
 add-i : tie.Need-add-i Inv-loop μ-loop
 add-i c =
     let l = c .before .before .before .before .before .before .loop in
-    let s = c .before .before .before .before .before .before .before .before .before .before in
-    let room = room-of s in
     let two = c .before .before .before .before .before .loop-test .taken in
-    record { fits = omega (arith, s .good .0, l .inv .counted) }
+    in-room (c .before .before .before .before .before .before .before .before .before .before) (l .i) (l .left) _ (l .inv .counted) (omega arith)
 
 loop-less : tie.Need-loop-less Inv-loop μ-loop
 loop-less c = omega arith
@@ -146,9 +144,7 @@ sample-of-requires-3 c κs = c .decode-nibble3 .ensures .1 .level
 mul-t24 : tie.Need-mul-t24 Inv-loop μ-loop
 mul-t24 c =
     let l = c .before .before .before .before .before .loop in
-    let s = c .before .before .before .before .before .before .before .before .before in
-    let room = room-of s in
-    record { fits = omega (arith, s .good .0, l .inv .counted) }
+    in-room (c .before .before .before .before .before .before .before .before .before) (l .i) (l .left) _ (l .inv .counted) (omega arith)
 
 slice-set-from-samples-3 : tie.Need-slice-set-from-samples-3 Inv-loop μ-loop
 slice-set-from-samples-3 c =
