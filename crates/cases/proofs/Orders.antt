@@ -2,7 +2,7 @@
 use mathlib.Core.Path.{refl}
 use Rattle.fields.specs.Le.{le, leBytes, put}
 use Rattle.duration.specs.Duration.{packedOf, unpackedOf, runLength, ofSeconds}
-use Rattle.chunk.specs.Chunk.{chunkHeaderOf}
+use Rattle.chunk.specs.Chunk.{chunkHeaderOf, chunkHeaderAt}
 use Rattle.chunk.specs.Interleave.{interleaveFrom}
 use Rattle.parse.specs.Header.{headerFields, headerSentinels}
 use Rattle.parse.specs.Preamble.{preambleOf}
@@ -20,7 +20,7 @@ use Rattle.cases.specs.Orders.{spoiling, eachFirst, eachCut, Orders}
 pub orders : Orders
 unfolding le leBytes put interleaveFrom headerFields headerSentinels cbSizeOf waveFormatFields waveFormatSentinels preambleOf chunkHeaderOf preludeBytes layout
     askWord askBody askItems preludeFields parseOf zeros zeroRanges validatedOf strictOf inRange readOf checkOf headerQuestions headerCall packetQuestions
-    packetCall trailerQuestions trailerCall packedOf unpackedOf runLength ofSeconds spoiling eachFirst eachCut P
+    packetCall trailerQuestions trailerCall packedOf unpackedOf runLength ofSeconds spoiling eachFirst eachCut P chunkHeaderAt
 orders =
     record {
       parsed = refl;
@@ -36,6 +36,8 @@ orders =
       fifty-six = λ payload e. refl;
       count-last = refl;
       header = refl;
+      header-at = refl;
+      header-at-short = refl;
       preamble = refl;
       packed = refl;
       unpacked = refl;

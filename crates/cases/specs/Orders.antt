@@ -8,7 +8,7 @@ use lib.ListN.{length, take}
 use Rattle.error.specs.Answer.{Answer, accepted, numbered, numberOf, placeOf}
 use Rattle.fields.specs.Le.{put}
 use Rattle.duration.specs.Duration.{packedOf, unpackedOf, runLength}
-use Rattle.chunk.specs.Chunk.{videoTag, chunkHeaderOf}
+use Rattle.chunk.specs.Chunk.{videoTag, chunkHeaderOf, chunkHeaderAt}
 use Rattle.chunk.specs.Interleave.{interleave}
 use Rattle.parse.specs.Preamble.{preambleOf}
 use Rattle.prelude.specs.Prelude.{parseOf, strictOf}
@@ -81,8 +81,12 @@ pub record Orders : Type 0 where
   pub fifty-six : (payload : List ℕ) → length payload ≡ 4294967296 → packs (writerAt true false 315) payload 2 [] ≡ no 56 315
   -- the interleave check: by position, "then even count"
   pub count-last : interleave (videoTag ∷ videoTag ∷ videoTag ∷ []) ≡ no 62 1
-  -- a chunk header is tag, then length; a preamble its state, then the count
+  -- a chunk header is tag, then length
   pub header : chunkHeaderOf (1 ∷ 0 ∷ 0 ∷ 0 ∷ 2 ∷ 0 ∷ 0 ∷ 0 ∷ []) ≡ accepted (record { tag = 1; size = 2 })
+  -- 02: at an offset of a file, the header of the bytes from there; 8 are left at 1, and 7 at 2
+  pub header-at : chunkHeaderAt (9 ∷ 1 ∷ 0 ∷ 0 ∷ 0 ∷ 2 ∷ 0 ∷ 0 ∷ 0 ∷ []) 1 ≡ accepted (record { tag = 1; size = 2 })
+  pub header-at-short : chunkHeaderAt (9 ∷ 1 ∷ 0 ∷ 0 ∷ 0 ∷ 2 ∷ 0 ∷ 0 ∷ 0 ∷ []) 2 ≡ no 29 0
+  -- a preamble is its state, then the count
   pub preamble : preambleOf (1 ∷ 0 ∷ 0 ∷ 0 ∷ 2 ∷ 0 ∷ 0 ∷ 0 ∷ []) ≡ accepted (record { state = 1; «decoded_sample_count» = 2 })
   -- "bytes seconds, minutes, hours, 0": an hour, two minutes and three seconds
   pub packed : packedOf (record { seconds = 3; minutes = 2; hours = 1 }) ≡ 3 + 0x0200 + 0x010000

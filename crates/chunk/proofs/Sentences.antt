@@ -1,5 +1,5 @@
--- 01's sentences about chunk headers and the interleave check hold: numbers by the cases of the questions, pairs by induction two tags at a
--- time. Assumes nothing.
+-- 01's and 02's sentences about chunk headers and the interleave check hold: numbers by the cases of the questions, pairs by induction two tags
+-- at a time. Assumes nothing.
 use mathlib.Core.Path.{_≡_, refl, sym}
 use mathlib.Core.Bool.{true, false, not}
 use mathlib.Core.List.{List, [], _∷_}
@@ -18,6 +18,7 @@ use Rattle.chunk.specs.Sentences.{pairs, ChunkSentences}
 use Rattle.chunk.specs.declared.ChunkKind.{ChunkKind}
 use Rattle.chunk.specs.declared.ChunkKind.the-variants.{Video, Audio, Other}
 use Rattle.chunk.proofs.Chunks.{kind-video, kind-audio}
+use Rattle.chunk.proofs.Headers.{header-at}
 
 -- ---- numbers
 
@@ -77,6 +78,7 @@ unfolding chunkHeaderOf
 chunk-sentences =
     record {
       header-numbers = λ s. asked-by (29 ∷ []) (leb 8 (length s)) 29 0 _ refl tt;
+      header-at = header-at;
       interleave-numbers = from-by 0;
       pairs-pass = λ n. pairs-from 0 n refl;
       only-pairs = λ tags. only-from 0 tags refl;

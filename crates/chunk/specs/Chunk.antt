@@ -49,6 +49,10 @@ advanceTotal size = 8 + size
 unfoldable pub chunkHeaderOf : List ℕ → Answer ChunkHeader
 chunkHeaderOf s = ask (leb 8 (length s)) 29 0 (accepted (record { tag = le 4 s 0; size = le 4 s 4 }))
 
+-- 02: tag and length "straight from the file", at an offset of it; "29 included", where fewer than 8 bytes are left from there
+unfoldable pub chunkHeaderAt : List ℕ → ℕ → Answer ChunkHeader
+chunkHeaderAt file at = ask (leb (at + 8) (length file)) 29 0 (accepted (record { tag = le 4 file at; size = le 4 file (at + 4) }))
+
 abbrev pub saidChunkHeader : ChunkHeaderResult → Answer ChunkHeader
 saidChunkHeader (Ok h) = accepted h
 saidChunkHeader (Err e) = refused (refusalOf e)

@@ -3,7 +3,7 @@ pub mod interleave;
 
 use error::AmvError;
 ghost use mathlib.Core.Path.{_≡_};
-ghost use Rattle.chunk.specs.Chunk.{kindOf, tagOf, streamTag, advanceTotal, saidChunkHeader, chunkHeaderOf};
+ghost use Rattle.chunk.specs.Chunk.{kindOf, tagOf, streamTag, advanceTotal, saidChunkHeader, chunkHeaderOf, chunkHeaderAt};
 
 // The tag of a frame. Tags are numbers, little-endian, so that one comparison tells them apart.
 pub const VIDEO_CHUNK_TAG: u32 = 0x63643030; // 00dc
@@ -71,7 +71,7 @@ pub struct ChunkHeader {
     pub size: u32,
 }
 
-// What `ChunkHeader::parse` answers.
+// What `ChunkHeader::parse` and `parse_at` answer.
 pub enum ChunkHeaderResult {
     Ok(ChunkHeader),
     Err(AmvError),
@@ -82,11 +82,22 @@ impl ChunkHeader {
     pub fn parse(slice: &[u8]) -> ChunkHeaderResult
         ensures { λ r. ⌜ saidChunkHeader r ≡ chunkHeaderOf (now (slice .entry)) ⌝ }
     {
-        if slice.len() < 8 {
+        ChunkHeader::parse_at(slice, 0)
+    }
+
+    // The header at an offset of a file, read where it stands: what `parse` answers of the bytes from there, 29 where fewer than 8 are left.
+    // Every walk over a file reads by it.
+    pub fn parse_at(file: &[u8], at: usize) -> ChunkHeaderResult
+        ensures { λ r. ⌜ saidChunkHeader r ≡ chunkHeaderAt (now (file .entry)) at ⌝ }
+    {
+        if file.len() < 8 {
             return ChunkHeaderResult::Err(AmvError::ChunkHeaderTooShort);
         }
-        let tag = fields::read_u32_le(slice, 0);
-        let size = fields::read_u32_le(slice, 4);
+        if file.len() - 8 < at {
+            return ChunkHeaderResult::Err(AmvError::ChunkHeaderTooShort);
+        }
+        let tag = fields::read_u32_le(file, at);
+        let size = fields::read_u32_le(file, at + 4);
         ChunkHeaderResult::Ok(ChunkHeader { tag, size })
     }
 
