@@ -1,12 +1,15 @@
 // What stands at an offset of a file: a chunk's header, the trailer, or neither.
-use chunk::ChunkKind;
+use chunk::AUDIO_CHUNK_TAG;
+use chunk::ChunkHeader;
+use chunk::ChunkHeaderResult;
+use chunk::VIDEO_CHUNK_TAG;
 use parse::preamble::AmvAudioPreamble;
 use parse::preamble::AmvAudioPreambleResult;
 ghost use mathlib.Core.Path.{_≡_};
 ghost use Prim.Native.Nat.{_+_};
 ghost use lib.ListN.{take, drop};
-ghost use Rattle.demuxer.specs.Head.{isTrailer, chunkHead, headAt, countOf};
-ghost use Rattle.demuxer.specs.Steps.{bodyAt};
+ghost use Rattle.demuxer.specs.Head.{isTrailer, headAt, countOf};
+ghost use Rattle.demuxer.specs.Steps.{fromHeader, bodyAt};
 
 // The trailer `AMV_END_` as a tag and a length: the first half.
 pub const TRAILER_TAG: u32 = 0x5f564d41;
@@ -40,14 +43,21 @@ fn is_trailer(tag: u32, size: u32) -> bool
     size == TRAILER_SIZE
 }
 
-// The head of 8 bytes that are not the trailer.
-fn chunk_head(tag: u32, size: u32) -> Head
-    ensures { λ r. ⌜ r ≡ chunkHead tag size ⌝ }
-{
-    match ChunkKind::classify(tag) {
-        ChunkKind::Video => Head::Video(size),
-        ChunkKind::Audio => Head::Audio(size),
-        ChunkKind::Other(_) => Head::Unknown,
+impl Head {
+    // What a header is taken for. Most are a chunk's, so the two tags are asked first; the trailer's first half is neither.
+    fn from_header(header: ChunkHeader) -> Head
+        ensures { λ r. ⌜ r ≡ fromHeader header ⌝ }
+    {
+        if header.tag == VIDEO_CHUNK_TAG {
+            return Head::Video(header.size);
+        }
+        if header.tag == AUDIO_CHUNK_TAG {
+            return Head::Audio(header.size);
+        }
+        if is_trailer(header.tag, header.size) {
+            return Head::Trailer;
+        }
+        Head::Unknown
     }
 }
 
@@ -56,18 +66,10 @@ fn chunk_head(tag: u32, size: u32) -> Head
 pub fn head_at(file: &[u8], at: usize) -> Head
     ensures { λ r. ⌜ r ≡ headAt (now (file .entry)) at ⌝ }
 {
-    if file.len() < 8 {
-        return Head::Short;
+    match ChunkHeader::parse_at(file, at) {
+        ChunkHeaderResult::Ok(header) => Head::from_header(header),
+        ChunkHeaderResult::Err(_) => Head::Short,
     }
-    if file.len() - 8 < at {
-        return Head::Short;
-    }
-    let tag = fields::read_u32_le(file, at);
-    let size = fields::read_u32_le(file, at + 4);
-    if is_trailer(tag, size) {
-        return Head::Trailer;
-    }
-    chunk_head(tag, size)
 }
 
 // The payload of a length that starts at an offset. Refuses nothing: a payload that the file ends inside is a case.
