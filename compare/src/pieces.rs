@@ -24,7 +24,7 @@ fn parse_wave(body: &[u8]) -> Answer<Wave> {
 }
 
 /// Tag and length.
-fn parse_chunk_header(bytes: &[u8]) -> Answer<[u64; 2]> {
+pub fn parse_chunk_header(bytes: &[u8]) -> Answer<[u64; 2]> {
     ask(bytes.len() >= 8, 29, 0)?;
     Ok([u32_at(bytes, 0), u32_at(bytes, 4)].map(u64::from))
 }

@@ -13,8 +13,9 @@ use plain::{AUDIO, Settings, VIDEO, Walker, Writer};
 use crate::files::{self, EXAMPLE_SETTINGS};
 use crate::interface::PLAIN;
 use crate::original::{self, Told};
+use crate::pieces;
 use crate::rules;
-use crate::said::{Said, Write};
+use crate::said::{Said, Write, said};
 
 /// The numbers of the functions in a case's first byte, with their names: the program has the same.
 const PARSE: (u8, &str) = (1, "parse");
@@ -31,9 +32,10 @@ const CHECK: (u8, &str) = (11, "check");
 const LISTING: (u8, &str) = (12, "listing");
 const PRINT_INDEX: (u8, &str) = (13, "print_index");
 const DECODE_BLOCK: (u8, &str) = (14, "decode_block");
+const CHUNK_HEADER: (u8, &str) = (15, "chunk_header");
 
 /// In the order of the counts that the program prints last.
-const FUNCTIONS: [(u8, &str); 14] = [
+const FUNCTIONS: [(u8, &str); 15] = [
     PARSE,
     NEXT_PACKET,
     BUILD_CHUNK_INDEX,
@@ -48,6 +50,7 @@ const FUNCTIONS: [(u8, &str); 14] = [
     LISTING,
     PRINT_INDEX,
     DECODE_BLOCK,
+    CHUNK_HEADER,
 ];
 
 /// Where the tags, sizes and bodies of a prelude start.
@@ -64,7 +67,7 @@ const CALLS: usize = 524_288;
 struct Cases {
     calls: Vec<u8>,
     printed: String,
-    counts: [u64; 15],
+    counts: [u64; 16],
     /// How many calls were not taken, since the original answers otherwise.
     left_out: u64,
 }
@@ -305,6 +308,21 @@ fn from_frame_count(cases: &mut Cases, frames: u64, fps: u32) {
     );
 }
 
+/// The header at an offset, by the original's parse of the bytes from there: 02 has the two answer alike.
+fn chunk_header(cases: &mut Cases, file: &[u8], at: usize) {
+    let from_there = &file[at..];
+    let plain = said(pieces::parse_chunk_header(from_there));
+    let said = answer(original::chunk_header(from_there), plain).unwrap();
+    let call = Call {
+        function: CHUNK_HEADER,
+        bytes: file,
+        lent: &[],
+        parameters: [at as u64, 0, 0],
+        state: &[],
+    };
+    cases.add(call, said.number.into(), &said.out, &[]);
+}
+
 /// Preludes: each tag, size and field made wrong, each item cut, and telling settings.
 fn preludes(cases: &mut Cases) {
     let example = &files::example()[..316];
@@ -480,6 +498,21 @@ fn tags(cases: &mut Cases) {
     }
 }
 
+/// Headers at every offset of short files, up to the length, and at telling ones of the example. No two bytes of a short file are equal.
+fn headers(cases: &mut Cases) {
+    let bytes: [u8; 20] = std::array::from_fn(|i| 255 - 11 * i as u8);
+    for length in [0, 7, 8, 9, 20] {
+        for at in 0..=length {
+            chunk_header(cases, &bytes[..length], at);
+        }
+    }
+    let example = files::example();
+    let last = example.len() - 8;
+    for at in [0, 316, 327].into_iter().chain(last..=example.len()) {
+        chunk_header(cases, &example, at);
+    }
+}
+
 fn run_lengths(cases: &mut Cases) {
     let frames = [
         0,
@@ -512,6 +545,7 @@ pub fn store(folder: &Path) {
     writes(&mut cases);
     tags(&mut cases);
     run_lengths(&mut cases);
+    headers(&mut cases);
     let of_the_original = cases.counts;
     stated::all(&mut cases);
     cases.print_counts();

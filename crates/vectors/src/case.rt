@@ -52,14 +52,17 @@ impl Functions {
     // The samples of a sound block. They are no bytes, so a case says how many entries are lent, and none of them.
     pub const DECODE_BLOCK: usize = 14;
 
+    // The header of a chunk at an offset of a file.
+    pub const CHUNK_HEADER: usize = 15;
+
     // One more than the last number, for a table of counts by function.
-    pub const COUNT: usize = 15;
+    pub const COUNT: usize = 16;
 }
 
 // The function of a case's first byte. Refuses none: a case of no function is run as the first, so that no case is passed over.
 pub fn function_of(byte: u8) -> usize
-    ensures { λ r. ⌜ r ≡ cond (ltb byte 15) byte 1 ⌝ }
-    ensures { λ r. ⌜ r < 15 ⌝ }
+    ensures { λ r. ⌜ r ≡ cond (ltb byte 16) byte 1 ⌝ }
+    ensures { λ r. ⌜ r < 16 ⌝ }
 {
     if (byte as usize) < Functions::COUNT {
         byte as usize

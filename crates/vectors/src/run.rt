@@ -11,6 +11,8 @@ use crate::print::print_bytes;
 use crate::print::print_call;
 use crate::print::print_end;
 use crate::print::print_samples;
+use chunk::ChunkHeader;
+use chunk::ChunkHeaderResult;
 use listing::ROOM;
 use listing::list;
 ghost use mathlib.Core.Path.{_≡_};
@@ -263,6 +265,25 @@ fn run_listing(input: &[u8]) {
     print_end();
 }
 
+// A refusal is printed as the C interface gives it: the number, then the place, and 0 for what is not answered.
+fn print_chunk_header(result: ChunkHeaderResult) {
+    match result {
+        ChunkHeaderResult::Ok(header) => {
+            print_call(b"chunk_header", 0);
+            print_3([0, header.tag as u64, header.size as u64]);
+        }
+        ChunkHeaderResult::Err(e) => {
+            print_call(b"chunk_header", e.number());
+            print_3([e.place(), 0, 0]);
+        }
+    }
+}
+
+fn run_chunk_header(file: &[u8], head: [u64; 12]) {
+    print_chunk_header(ChunkHeader::parse_at(file, head[0] as usize));
+    print_end();
+}
+
 // The calls of a whole file.
 fn run_whole(function: usize, file: &[u8]) {
     if function == Functions::SUMMARY {
@@ -275,7 +296,9 @@ fn run_whole(function: usize, file: &[u8]) {
 }
 
 fn run_reading(function: usize, bytes: &[u8], head: [u64; 12]) {
-    if function == Functions::DECODE_BLOCK {
+    if function == Functions::CHUNK_HEADER {
+        run_chunk_header(bytes, head);
+    } else if function == Functions::DECODE_BLOCK {
         run_decode_block(bytes, head);
     } else if function >= Functions::SUMMARY {
         run_whole(function, bytes);
