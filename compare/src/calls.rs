@@ -1,7 +1,7 @@
 //! One comparison of one call: the plain implementation, the library, and the original under the rules.
 
 use plain::words::{WalkerWords, WriterWords, walker_of, writer_of};
-use plain::{Record, Refusal, Walker};
+use plain::{AUDIO, Record, Refusal, TRAILER, VIDEO, Walker};
 
 use crate::grammar;
 use crate::interface::{LIBRARY, PLAIN};
@@ -88,6 +88,53 @@ pub fn next_packet(
         )
     });
     plain
+}
+
+/// What a read answers (number, and `out` up to the payload's length) and where it leaves the walker (cursor, end, cut, trailer), by the
+/// header at its cursor: tag and length, or none where fewer than 8 bytes are left.
+fn read_of(header: Option<(u32, u32)>, left: u64, at: u64) -> (u32, [u64; 5], [u64; 4]) {
+    let none = u64::MAX;
+    let cut = (0, [0; 5], [at, 1, 1, none]);
+    let Some((tag, size)) = header else {
+        return cut;
+    };
+    if [tag.to_le_bytes(), size.to_le_bytes()].concat() == TRAILER {
+        return (0, [0; 5], [at, 1, 0, at]);
+    }
+    let stream = match tag {
+        VIDEO => 0,
+        AUDIO => 1,
+        _ => return (31, [at, 0, 0, 0, 0], [at, 0, 0, none]),
+    };
+    let (start, size) = (at + 8, u64::from(size));
+    if left < 8 + size {
+        return cut;
+    }
+    (0, [0, 1, stream, start, size], [start + size, 0, 0, none])
+}
+
+/// One read of the library at an offset up to the file's length, by the header that the original's `ChunkHeader::parse` gives of the bytes
+/// from there: 02 has the two agree. Neither the plain walk nor the original's is asked.
+pub fn read_by_header(tally: &mut Tally, file: &[u8], at: usize) {
+    let from_there = &file[at..];
+    let header = match original::chunk_header(from_there) {
+        Told::Said(Said { number: 0, out }) => Some((out[1] as u32, out[2] as u32)),
+        Told::Said(Said { number: 29, .. }) => None,
+        told => panic!("ChunkHeader::parse told {told:?}"),
+    };
+    let expected = read_of(header, from_there.len() as u64, at as u64);
+    let mut walker = [at as u64, 0, 0, 0, 0, 0, u64::MAX];
+    let Said { number, out } = LIBRARY.next_packet(file, &mut walker);
+    let [place, packet, stream, start, length, ..] = out;
+    let [cursor, _, _, _, end, cut, trailer] = walker;
+    let got = (
+        number,
+        [place, packet, stream, start, length],
+        [cursor, end, cut, trailer],
+    );
+    tally.equal("a read by its header", expected, got, || {
+        format!("{at} on {}", hex(file))
+    });
 }
 
 /// A lent buffer in the middle of a larger one, whose other entries must stay.

@@ -1,7 +1,7 @@
 //! What is fed to the comparisons: short inputs in full, then rounds of random ones.
 
 use plain::words::{self, WalkerWords, WriterWords};
-use plain::{AUDIO, RECORD, Record, VIDEO, Walker, Writer};
+use plain::{AUDIO, PRELUDE, RECORD, Record, VIDEO, Walker, Writer};
 
 use crate::calls::{self, Guarded};
 use crate::files;
@@ -57,6 +57,9 @@ pub fn exhaustive(tally: &mut Tally, random: &mut Random) {
     for file in files::shapes() {
         for cut in 0..=file.len() {
             whole_file(tally, &file[..cut], RECORD);
+            for at in cut.saturating_sub(60)..=cut {
+                calls::read_by_header(tally, &file[..cut], at);
+            }
         }
         for more in 1..20 {
             whole_file(tally, &[&file[..], &vec![b'0'; more]].concat(), RECORD);
@@ -66,6 +69,7 @@ pub fn exhaustive(tally: &mut Tally, random: &mut Random) {
     files::all_short(5, |file| {
         calls::check(tally, file);
         movi(tally, file, RECORD);
+        calls::read_by_header(tally, file, PRELUDE);
     });
     for slack in 0..2 * RECORD + 2 {
         whole_file(tally, &files::example(), slack);
@@ -183,6 +187,7 @@ fn walkers(tally: &mut Tally, random: &mut Random, file: &[u8]) {
         .map(|records| records.iter().map(|record| record.offset as u64).collect())
         .unwrap_or_default();
     for _ in 0..4 {
+        calls::read_by_header(tally, file, random.size(file.len() + 1));
         let mut walker = random_walker(random, file.len() as u64);
         if !offsets.is_empty() && random.once_in(2) {
             walker[0] = random.pick(&offsets);
