@@ -1,4 +1,5 @@
 pub mod Heads
+pub mod Headed
 pub mod Ranges
 pub mod Bodies
 pub mod Steps

@@ -1,46 +1,45 @@
 -- The check accepts exactly the files of the grammar, and its totals are the drain's. Assumes nothing.
 use mathlib.Core.Path.{_≡_, refl, sym, ap, ap₂, _∙_}
-use mathlib.Core.Bool.{Bool, true, false, cond}
+use mathlib.Core.Bool.{Bool, true}
 use mathlib.Core.List.{List, [], _∷_, _++_, append-assoc, append-nil}
 use Prim.Native.Nat.{ℕ, zero, suc, _+_, _-_, _^_, _≤_, _<_}
 use native.Mathlib.Nat.{zero-add}
 use native.Mathlib.Omega.{arith}
 use borrow.Author.Tests.{le-leb, leb-true, eqb-true}
-use lib.Dec.{leb, eqb}
+use lib.Dec.{eqb}
 use lib.ListN.{length, take, drop, length-append, length-take, take-append-drop, drop-of-length-le}
 use lib.Seq.{take-at, drop-drop}
-use Rattle.chunk.specs.Chunk.{videoTag, audioTag, kindOf, trailerBytes}
+use Rattle.chunk.specs.Chunk.{trailerBytes}
 use Rattle.chunk.specs.Interleave.{interleave}
-use Rattle.chunk.specs.declared.ChunkKind.{ChunkKind}
-use Rattle.chunk.specs.declared.ChunkKind.the-variants.{Video, Audio, Other}
-use Rattle.chunk.proofs.Chunks.{kind-video, kind-audio}
+use Rattle.chunk.specs.declared.ChunkKind.the-variants.{Video, Audio}
 use Rattle.error.specs.Answer.{Answer, accepted, andThen}
-use Rattle.error.proofs.Answers.{never, then-accepted, ask-passed, both}
+use Rattle.error.proofs.Answers.{never, then-accepted, ask-passed}
 use Rattle.fields.specs.File.{fileLimit, withinLimit}
-use Rattle.fields.specs.Le.{le, leBytes, Bytes}
+use Rattle.fields.specs.Le.{leBytes, Bytes}
 use Rattle.fields.proofs.Laws.{le-lt, leBytes-le}
 use Rattle.prelude.specs.Layout.{preludeLen}
 use Rattle.prelude.specs.Prelude.{parseOf, validatedOf, strictOf}
 use Rattle.prelude.specs.declared.prelude.AmvPrelude.{AmvPrelude}
 use Rattle.prelude.proofs.Layouts.{parsed-length}
 use Rattle.prelude.proofs.Local.{strict-local}
-use Rattle.demuxer.specs.Head.{trailerTag, trailerSize, isTrailer, kindHead, chunkHead, headAt}
+use Rattle.demuxer.specs.Head.{trailerTag, trailerSize, headAt}
 use Rattle.demuxer.specs.Position.{start}
 use Rattle.demuxer.specs.Read.{payloadAt}
 use Rattle.demuxer.specs.declared.head.Head.{Head}
 use Rattle.demuxer.specs.declared.head.Head.the-variants as head
 use Rattle.demuxer.specs.declared.position.Position.{Position}
+use Rattle.demuxer.proofs.Headed.{Headed, Heads, headed}
 use Rattle.walk.specs.Walk.{ranOut, Walk, stop, onHead, stepAt, onStep, walkFor, walk, fileWalk, past, kindTag}
 use Rattle.walk.specs.declared.Kind.{Kind}
 use Rattle.walk.specs.declared.Kind.the-variants.{Frame, Sound}
 use Rattle.walk.specs.Chunks.{Chunk, chunkOf, chunkBytes, chunksBytes, Lengths, walkOf}
-use Rattle.walk.proofs.Chunked.{chunks-walked}
 use Rattle.finished.specs.Check.{passes, tagsOf, checkFrom, allPaired, checkChunks, checkOf}
 use Rattle.recording.specs.Check.{chunkTags, totalsOf, CheckIsGrammar}
 use Rattle.finished.specs.declared.Totals.{Totals}
 use Rattle.recording.specs.Drain.{frames, samples, blocks}
 use Rattle.recording.specs.Grammar.{Finished}
 use Rattle.recording.proofs.Positions.{length-chunk}
+use Rattle.recording.proofs.Tables.{finished-walk}
 
 -- ---- a finished file is accepted
 
@@ -53,14 +52,6 @@ finished-strict file cs f =
     sym (strict-local file (within file (f .fits)))
     ∙ ap strictOf (ap (take preludeLen) (f .is) ∙ take-at (f .prelude) (chunksBytes cs ++ trailerBytes) preludeLen (f .whole))
     ∙ f .passes .1
-
--- and its walk is that of its chunks
-pub finished-walk : (file : List ℕ) (cs : List Chunk) → Finished file cs → fileWalk file ≡ walkOf cs 0
-finished-walk file cs f =
-    let e : file ≡ f .prelude ++ (chunksBytes cs ++ (trailerBytes ++ [])) =
-    f .is ∙ ap (λ (t : List ℕ). f .prelude ++ (chunksBytes cs ++ t)) (sym (append-nil trailerBytes)) in
-    let n = sym (f .whole) in
-    (λ i. walk (e i) (n i)) ∙ chunks-walked (f .prelude) cs [] (f .lengths)
 
 tags-walked : (cs : List Chunk) (n : ℕ) → tagsOf (walkOf cs n) ≡ chunkTags cs
 unfolding tagsOf walkOf chunkTags
@@ -107,41 +98,6 @@ check-accepts file cs f =
     ∙ ap accepted (same-totals (zero-add (frames cs)) (zero-add (blocks cs)) (zero-add (samples cs)) refl refl)
 
 -- ---- what is accepted is finished
-
--- the header that was read, as it stands in the file
-record Headed (file : List ℕ) (at tag size : ℕ) : Type 0 where
-  there : at + 8 ≤ length file
-  tag-is : le 4 file at ≡ tag
-  size-is : le 4 file (at + 4) ≡ size
-
--- by what the header is taken for
-Heads : List ℕ → ℕ → Head → Type 0
-Heads file at head.Short = Unit
-Heads file at head.Trailer = Headed file at trailerTag trailerSize
-Heads file at head.Unknown = Unit
-Heads file at (head.Video size) = Headed file at videoTag size
-Heads file at (head.Audio size) = Headed file at audioTag size
-
-headed : (file : List ℕ) (at : ℕ) → Heads file at (headAt file at)
-unfolding headAt Heads
-headed file at = on _ refl
-  where
-    kinds : at + 8 ≤ length file → (k : ChunkKind) → kindOf (le 4 file at) ≡ k → Heads file at (kindHead k (le 4 file (at + 4)))
-    kinds h Video e = record { there = h; tag-is = kind-video (le 4 file at) e; size-is = refl }
-    kinds h Audio e = record { there = h; tag-is = kind-audio (le 4 file at) e; size-is = refl }
-    kinds h (Other tag) e = tt
-
-    ends : at + 8 ≤ length file → (b : Bool) → isTrailer (le 4 file at) (le 4 file (at + 4)) ≡ b
-        → Heads file at (cond b head.Trailer (chunkHead (le 4 file at) (le 4 file (at + 4))))
-    ends h true e =
-        let p = both (eqb (le 4 file at) trailerTag) (eqb (le 4 file (at + 4)) trailerSize) e in
-        record { there = h; tag-is = eqb-true (le 4 file at) trailerTag (p .0); size-is = eqb-true (le 4 file (at + 4)) trailerSize (p .1) }
-    ends h false e = kinds h (kindOf (le 4 file at)) refl
-
-    on : (b : Bool) → leb (at + 8) (length file) ≡ b
-        → Heads file at (cond b (cond (isTrailer (le 4 file at) (le 4 file (at + 4))) head.Trailer (chunkHead (le 4 file at) (le 4 file (at + 4)))) head.Short)
-    on true e = ends (leb-true (at + 8) (length file) e) _ refl
-    on false e = tt
 
 -- the eight bytes of a header, and what follows
 header-bytes : (file : List ℕ) (at tag size : ℕ) → Bytes file → Headed file at tag size → drop at file ≡ leBytes 4 tag ++ (leBytes 4 size ++ drop (at + 8) file)

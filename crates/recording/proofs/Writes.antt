@@ -37,7 +37,7 @@ use Rattle.recording.specs.Drain.{drain, drainFrom}
 use Rattle.recording.specs.Grammar.{Passes, Finished}
 use Rattle.recording.specs.WriteLists.{WriteCall, header, packet, trailer, writeStep, kept, acceptedCalls, writerAfter, bufferAfter, writtenFile}
 use Rattle.recording.specs.WriteLists.{Sent, sentBy, sentIn, Held, Completed, Drains, WritesDrain}
-use Rattle.recording.proofs.Checks.{finished-walk}
+use Rattle.recording.proofs.Tables.{finished-walk}
 
 -- ---- the run length fits its field
 
