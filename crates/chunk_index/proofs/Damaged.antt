@@ -1,9 +1,9 @@
--- The first p bytes of a file that is refused with 31 at p have an index. By induction over the walk: every chunk before p ends at p or before,
+-- The first p bytes of a file that is refused with 31 at p have an index. By induction along the walk: every chunk before p ends at p or before,
 -- so it is the same in the first p bytes, and there the walk runs out at p. Assumes nothing.
 use mathlib.Core.Path.{_≡_, refl, sym, ap, _∙_}
 use mathlib.Core.Bool.{Bool, true, false}
 use mathlib.Core.List.{List, _∷_}
-use Prim.Native.Nat.{ℕ, zero, suc, _+_, _≤_}
+use Prim.Native.Nat.{ℕ, _≤_}
 use native.Mathlib.Omega.{arith}
 use borrow.Author.Tests.{le-leb, leb-true}
 use lib.ListN.{length, take}
@@ -21,7 +21,7 @@ use Rattle.walk.specs.declared.ChunkAt.{ChunkAt}
 use Rattle.walk.specs.declared.Step.{Step}
 use Rattle.walk.specs.declared.Step.the-variants as step
 use Rattle.walk.proofs.Taken.{payload-take, step-take}
-use Rattle.walk.proofs.Walks.{Goes, step-means, step-out, past-cursor, unknown-there}
+use Rattle.walk.proofs.Walks.{Goes, step-means, step-out, past-cursor, along, unknown-there}
 use Rattle.chunk_index.specs.Damaged.{BeforeUnknownTag}
 use Rattle.chunk_index.specs.Entry.{entry}
 use Rattle.chunk_index.specs.Index.{records, tagsKnown, indexOf}
@@ -96,11 +96,10 @@ module _ (file : List ℕ) (p : ℕ) where
           at-p q (ap placeOf same) e
       on (step.Chunk c) e = let g = step-means file (q .cursor) (step.Chunk c) e in chunks c e g (recordedAt c) refl
 
-  -- each chunk takes 8 bytes at least
-  before : (k : ℕ) (q : Position) → length file ≤ q .cursor + k → tagsKnown (q .cursor) (walk file (q .cursor)) ≡ refused (numbered 31 p)
-      → Before file p q
-  before zero q l u = by-step q u (λ c g u′. let t = g .there in absurd (omega arith))
-  before (suc k) q l u = by-step q u (λ c g u′. before k (pastAt file q c) (let n = past-cursor file q c in omega arith) u′)
+  before : (q : Position) → tagsKnown (q .cursor) (walk file (q .cursor)) ≡ refused (numbered 31 p) → Before file p q
+  before =
+      along file (λ q. tagsKnown (q .cursor) (walk file (q .cursor)) ≡ refused (numbered 31 p) → Before file p q)
+      (λ q later u. by-step q u later)
 
 -- 31 is not 10, and comes from a tag
 asked : (file : List ℕ) (p : ℕ) (b : Bool) → withinLimit file ≡ b → (x : Answer Unit)
@@ -115,6 +114,6 @@ unfolding indexOf
 before-unknown-tag file p e =
     let a = asked file p (withinLimit file) refl (tagsKnown preludeLen (fileWalk file)) e in
     let l = a .0 in
-    let b = before file p (length file) start (omega arith) (a .1) in
+    let b = before file p start (a .1) in
     let within : length (take p file) ≤ fileLimit = let t = length-take-le p file (b .inside) in let i = b .inside in omega arith in
     rw (le-leb (length (take p file)) fileLimit within, b .known) (ap accepted (b .same))

@@ -19,8 +19,8 @@ use Rattle.walk.specs.declared.Kind.the-variants.{Frame, Sound}
 use Rattle.walk.specs.declared.Step.the-variants as step
 use Rattle.walk.proofs.Walks.{step-means}
 
--- the header of a kind
-abbrev headOf : Kind → ℕ → Head
+-- the header of a kind, and the step past it
+abbrev pub headOf : Kind → ℕ → Head
 headOf Frame size = head.Video size
 headOf Sound size = head.Audio size
 
@@ -36,7 +36,7 @@ pub tag-no-trailer : (kind : Kind) (size : ℕ) → isTrailer (kindTag kind) siz
 tag-no-trailer Frame size = refl
 tag-no-trailer Sound size = refl
 
-on-head : (file : List ℕ) (at : ℕ) (kind : Kind) (size : ℕ) → onHead file at (headOf kind size) ≡ step.Chunk (chunkAt file at kind size)
+pub on-head : (file : List ℕ) (at : ℕ) (kind : Kind) (size : ℕ) → onHead file at (headOf kind size) ≡ step.Chunk (chunkAt file at kind size)
 on-head file at Frame size = refl
 on-head file at Sound size = refl
 

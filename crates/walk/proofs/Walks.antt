@@ -4,13 +4,14 @@ use mathlib.Core.Path.{_≡_, refl, sym, ap, _∙_, subst}
 use mathlib.Core.List.{List}
 use mathlib.Core.Logic.{_⊎_, ⊎-elim}
 use denote.Enum.Declared.{declared, tagOf}
-use Prim.Native.Nat.{ℕ, zero, suc, _+_, _-_, _≤_, _<_}
+use Prim.Native.Nat.{ℕ, zero, suc, _+_, _-_, _≤_, _<_, min}
 use native.Mathlib.Decide.{decLe}
 use native.Mathlib.Nat.{lt-of-not-le}
 use native.Mathlib.Omega.{arith}
 use borrow.Author.Tests.{le-leb, lt-leb}
 use lib.Dec.{leb}
 use lib.ListN.{length, length-take, length-drop}
+use Rattle.fields.specs.Le.{le}
 use Rattle.fields.proofs.Impossible.{impossible}
 use Rattle.demuxer.specs.Head.{headAt, countOf}
 use Rattle.demuxer.specs.Read.{payloadAt}
@@ -18,6 +19,7 @@ use Rattle.demuxer.specs.declared.head.Head.{Head}
 use Rattle.demuxer.specs.declared.head.Head.the-variants as head
 use Rattle.demuxer.specs.declared.position.Position.{Position}
 use Rattle.demuxer.proofs.Heads.{head-out}
+use Rattle.demuxer.proofs.Headed.{Headed, Heads, headed}
 use Rattle.walk.specs.Steps.{pastAt}
 use Rattle.walk.specs.Walk.{chunkAt, onHead, stepAt, Stop, ranOut, trailer, unknownTag, Walk, stop, chunk, onStep, walkFor, walk, pastBy, past}
 use Rattle.walk.specs.declared.Kind.{Kind}
@@ -98,9 +100,10 @@ payload-there file at size n h k =
 
 -- ---- what a step says of the walk
 
--- a chunk: its header lies in the file, its payload and what is missing make its length, and the walk goes past it
+-- a chunk: its header lies in the file, with its length; its payload and what is missing make that, and the walk goes past it
 pub record Goes (file : List ℕ) (at : ℕ) (c : ChunkAt) : Type 0 where
   pub there : at + 8 ≤ length file
+  pub size-at : le 4 file (at + 4) ≡ c .size
   pub size-is : length (payloadAt file at (c .size)) + c .missing ≡ c .size
   pub is : walk file at ≡ chunk (c .kind) (payloadAt file at (c .size)) (c .missing) (walk file (at + (8 + c .size)))
 
@@ -116,12 +119,17 @@ Means file at step.UnknownTag = walk file at ≡ stop unknownTag
 Means file at (step.Chunk c) = Goes file at c
 
 goes : (file : List ℕ) (at : ℕ) (kind : Kind) (size : ℕ) → stepAt file at ≡ step.Chunk (chunkAt file at kind size)
-    → at + 8 ≤ length file → Goes file at (chunkAt file at kind size)
-goes file at kind size e t =
-    record { there = t; size-is = payload-size file at size; is = walk-step file at ∙ ap (onStep file at (walk file)) e }
+    → {tag : ℕ} → Headed file at tag size → Goes file at (chunkAt file at kind size)
+goes file at kind size e h =
+    record {
+      there = h .there;
+      size-at = h .size-is;
+      size-is = payload-size file at size;
+      is = walk-step file at ∙ ap (onStep file at (walk file)) e;
+    }
 
 means : (file : List ℕ) (at : ℕ) → Means file at (stepAt file at)
-unfolding stepAt
+unfolding stepAt Heads
 means file at = on (headAt file at) refl
   where
     on : (h : Head) → headAt file at ≡ h → Means file at (onHead file at h)
@@ -132,11 +140,27 @@ means file at = on (headAt file at) refl
           is = walk-step file at ∙ ap (λ (h : Head). onStep file at (walk file) (onHead file at h)) e;
         }
     on head.Unknown e = walk-step file at ∙ ap (λ (h : Head). onStep file at (walk file) (onHead file at h)) e
-    on (head.Video size) e = goes file at Frame size (ap (onHead file at) e) (video-there file at size e)
-    on (head.Audio size) e = goes file at Sound size (ap (onHead file at) e) (audio-there file at size e)
+    on (head.Video size) e = goes file at Frame size (ap (onHead file at) e) (subst (Heads file at) e (headed file at))
+    on (head.Audio size) e = goes file at Sound size (ap (onHead file at) e) (subst (Heads file at) e (headed file at))
 
 pub step-means : (file : List ℕ) (at : ℕ) (x : Step) → stepAt file at ≡ x → Means file at x
 step-means file at x e = subst (Means file at) e (means file at)
+
+-- a chunk of which nothing is missing lies in the file; inside another the file ends, and after it the walk
+module _ (file : List ℕ) (at : ℕ) (c : ChunkAt) (g : Goes file at c) where
+  payload-length : length (payloadAt file at (c .size)) ≡ min (c .size) (length file - (at + 8))
+  payload-length = simp (length-take, length-drop)
+
+  pub whole-inside : c .missing ≡ 0 → at + 8 + c .size ≤ length file
+  whole-inside m = omega (arith, payload-length, g .there, g .size-is)
+
+  pub cut-outside : 0 < c .missing → length file < at + 8 + c .size
+  cut-outside m = omega (arith, payload-length, g .there, g .size-is)
+
+  pub cut-last : 0 < c .missing → walk file (at + (8 + c .size)) ≡ stop ranOut
+  cut-last m =
+      let out = cut-outside m in
+      step-means file (at + (8 + c .size)) step.RanOut (step-out file (at + (8 + c .size)) (omega arith))
 
 -- what is no chunk is a stop
 pub stopped : (file : List ℕ) (at : ℕ) (x : Step) → stepAt file at ≡ x
@@ -173,3 +197,12 @@ one-more file p c = go (c .kind) (countOf (payloadAt file (p .cursor) (c .size))
     go : (kind : Kind) (count : ℕ) → chunksBefore (pastBy p kind (c .size) count) ≡ chunksBefore p + 1
     go Frame count = omega arith
     go Sound count = omega arith
+
+-- what holds of a position if it holds past the chunk there, where there is one, holds of every position: each chunk takes 8 bytes at least
+pub along : (file : List ℕ) (P : Position → Type 0)
+    → ((p : Position) → ((c : ChunkAt) → Goes file (p .cursor) c → P (pastAt file p c)) → P p) → (p : Position) → P p
+along file P step p = go (length file) p (omega arith)
+  where
+    go : (k : ℕ) (p : Position) → length file ≤ p .cursor + k → P p
+    go zero p l = step p (λ c g. let t = g .there in absurd (omega arith))
+    go (suc k) p l = step p (λ c g. go k (pastAt file p c) (let n = past-cursor file p c in omega arith))
