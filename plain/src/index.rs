@@ -57,9 +57,10 @@ impl Record {
     }
 }
 
-/// The walk of the index, from 316: calls `each` with the record of every chunk that has one. Refuses with 31.
+/// The walk of the index, from 316: calls `each` with the record of every chunk that has one, and whether its payload is whole. Refuses
+/// with 31.
 #[inline(always)]
-fn walk(file: &[u8], mut each: impl FnMut(Record)) -> Answer<()> {
+fn walk(file: &[u8], mut each: impl FnMut(Record, bool)) -> Answer<()> {
     let mut at = PRELUDE;
     let (mut frames, mut blocks, mut samples) = (0, 0, 0);
     while let Some((head, rest)) = head_at(file, at) {
@@ -75,13 +76,14 @@ fn walk(file: &[u8], mut each: impl FnMut(Record)) -> Answer<()> {
             },
             _ => return refuse(31, at as u64),
         };
-        each(Record {
+        let record = Record {
             tag,
             offset: at as u32,
             frames,
             blocks,
             samples,
-        });
+        };
+        each(record, rest.len() >= length);
         if tag == VIDEO {
             frames += 1;
         } else {
@@ -96,7 +98,7 @@ fn walk(file: &[u8], mut each: impl FnMut(Record)) -> Answer<()> {
 /// The records of a file as a list; the length of the file is not asked about.
 pub fn records(file: &[u8]) -> Answer<Vec<Record>> {
     let mut records = Vec::new();
-    walk(file, |record| records.push(record))?;
+    walk(file, |record, _| records.push(record))?;
     Ok(records)
 }
 
@@ -106,11 +108,11 @@ pub fn build_chunk_index(file: &[u8], table: &mut [u8]) -> Answer<u64> {
     within_limit(file)?;
     // A refusal must leave the table as it is, so the records are counted first.
     let mut count = 0;
-    walk(file, |_| count += 1)?;
+    walk(file, |_, _| count += 1)?;
     let (room, _) = table.as_chunks_mut();
     ask(room.len() >= count, 40, 0)?;
     let mut room = room.iter_mut();
-    walk(file, |record| {
+    walk(file, |record, _| {
         if let Some(bytes) = room.next() {
             *bytes = record.bytes();
         }
@@ -137,13 +139,14 @@ pub(crate) fn good_records(
     Ok(records)
 }
 
-/// How many frames and blocks the index has. Refuses with 10 and 31.
+/// How many whole frames and blocks the index has records of. Refuses with 10 and 31.
+#[inline]
 pub fn summary(file: &[u8]) -> Answer<(u64, u64)> {
     within_limit(file)?;
     let (mut frames, mut blocks) = (0, 0);
-    walk(file, |record| match record.tag {
-        VIDEO => frames += 1,
-        _ => blocks += 1,
+    walk(file, |record, whole| {
+        frames += u64::from(whole && record.tag == VIDEO);
+        blocks += u64::from(whole && record.tag == AUDIO);
     })?;
     Ok((frames, blocks))
 }

@@ -277,24 +277,24 @@ fn cuts(cases: &mut Cases) {
         check(cases, &example[..cut], refused(11, place));
         summary(cases, &example[..cut], accepted(&[0, 0]));
     }
-    // Where E is cut, the chunk that is not whole, the frames and blocks that have a record.
-    for (cut, chunk, records) in [
+    // Where E is cut, the chunk that is not whole, the frames and blocks that are.
+    for (cut, chunk, whole) in [
         (316, 316, [0, 0]),
         (317, 316, [0, 0]),
         (323, 316, [0, 0]),
-        (324, 316, [1, 0]),
-        (326, 316, [1, 0]),
+        (324, 316, [0, 0]),
+        (326, 316, [0, 0]),
         (327, 327, [1, 0]),
         (334, 327, [1, 0]),
         (335, 327, [1, 0]),
         (342, 327, [1, 0]),
-        (343, 327, [1, 1]),
-        (344, 327, [1, 1]),
+        (343, 327, [1, 0]),
+        (344, 327, [1, 0]),
         (345, 345, [1, 1]),
         (352, 345, [1, 1]),
     ] {
         check(cases, &example[..cut], refused(60, chunk));
-        summary(cases, &example[..cut], accepted(&records));
+        summary(cases, &example[..cut], accepted(&whole));
     }
 }
 
@@ -354,7 +354,7 @@ fn tails(cases: &mut Cases) {
         (b"AMV_END_00dc", refused(61, 316), accepted(&[0, 0])),
         (b"00dbxyz", refused(60, 316), accepted(&[0, 0])),
         (b"00db\xff\xff\xff\xff", refused(31, 316), refused(31, 316)),
-        (b"00dc\xff\xff\xff\xff", refused(60, 316), accepted(&[1, 0])),
+        (b"00dc\xff\xff\xff\xff", refused(60, 316), accepted(&[0, 0])),
         (
             b"01wb\xff\xff\xff\xff.seven.",
             refused(60, 316),
@@ -363,7 +363,7 @@ fn tails(cases: &mut Cases) {
         (
             b"01wb\xff\xff\xff\xff.eight..",
             refused(60, 316),
-            accepted(&[0, 1]),
+            accepted(&[0, 0]),
         ),
         (b"01wb\x04\0\0\0abc", refused(60, 316), accepted(&[0, 0])),
         (

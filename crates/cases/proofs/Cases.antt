@@ -1,4 +1,4 @@
--- Document 01's ten cases hold: antt computes them. Assumes nothing.
+-- Document 01's ten cases and what 02 says of them hold: antt computes them. Assumes nothing.
 use mathlib.Core.Path.{refl}
 use borrow.Author.Tests.{ne-eqb}
 use Rattle.fields.specs.Le.{le, leBytes}
@@ -18,6 +18,7 @@ use Rattle.walk.specs.Walk.{stepAt, walkFor, walk}
 use Rattle.walk.specs.Chunks.{chunkBytes, chunksBytes}
 use Rattle.chunk_index.specs.Entry.{entryBytes, tableBytes, entryAt, entriesFrom}
 use Rattle.chunk_index.specs.Index.{records, tagsKnown, indexOf}
+use Rattle.chunk_index.specs.Summary.{countsFrom, summaryOf}
 use Rattle.table.specs.Table.{askEach}
 use Rattle.seek.specs.Seek.{seekQuestions, find, pastLast, seekOf}
 use Rattle.finished.specs.Check.{tagsOf, checkFrom, checkOf}
@@ -28,7 +29,7 @@ pub cases : Cases
 unfolding le leBytes packedOf runLength ofSeconds interleaveFrom headerFields headerSentinels cbSizeOf waveFormatFields waveFormatOf waveFormatSentinels
     preludeBytes layout askWord askBody askItems preludeFields parseOf zeros zeroRanges validatedOf strictOf preambleOf headAt countOf payloadOf shownOf inRange
     readFrame readSound readChunk readOf stepAt walkFor walk chunkBytes chunksBytes entryBytes tableBytes entryAt entriesFrom records tagsKnown indexOf
-    askEach seekQuestions find pastLast seekOf tagsOf checkFrom checkOf E
+    countsFrom summaryOf askEach seekQuestions find pastLast seekOf tagsOf checkFrom checkOf E
 cases =
     record {
       one = refl;
@@ -59,6 +60,8 @@ cases =
       nine-344 = refl;
       nine-343 = refl;
       nine-342 = refl;
+      nine-summary = refl;
+      nine-whole = refl;
       ten = λ byte. refl;
       ten-passes = refl;
     }

@@ -155,4 +155,6 @@ numbers =
       totals = refl;
       summary = refl;
       summary-cut = refl;
+      summary-last-frame = refl;
+      summary-last-block = refl;
     }

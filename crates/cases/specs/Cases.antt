@@ -1,4 +1,4 @@
--- Document 01's ten cases, "proved as one group". Assumes nothing.
+-- Document 01's ten cases, "proved as one group", and what 02 says of them. Assumes nothing.
 use mathlib.Core.Path.{_≡_}
 use mathlib.Core.Bool.{true, false}
 use mathlib.Core.List.{List, [], _∷_, _++_}
@@ -19,6 +19,7 @@ use Rattle.demuxer.specs.declared.position.Position.{Position}
 use Rattle.demuxer.specs.declared.walker.Trailer.the-variants.{NotMet}
 use Rattle.chunk_index.specs.Entry.{tableBytes}
 use Rattle.chunk_index.specs.Index.{indexOf}
+use Rattle.chunk_index.specs.Summary.{summaryOf}
 use Rattle.chunk_index.specs.declared.entry.ChunkIndexEntry.{ChunkIndexEntry}
 use Rattle.seek.specs.Seek.{seekOf}
 use Rattle.finished.specs.Check.{checkOf}
@@ -112,6 +113,9 @@ pub record Cases : Type 0 where
   pub nine-344 : indexOf (take 344 E) ≡ accepted (firstRecord ∷ secondRecord ∷ [])
   pub nine-343 : indexOf (take 343 E) ≡ accepted (firstRecord ∷ secondRecord ∷ [])
   pub nine-342 : indexOf (take 342 E) ≡ accepted (firstRecord ∷ [])
+  -- 02, M-103: "on case (9) at 344 bytes the summary goes from 1 frame, 1 block to 1 frame, 0 blocks"; on E, which is finished, it stays
+  pub nine-summary : summaryOf (take 344 E) ≡ accepted (record { frames = 1; blocks = 0 })
+  pub nine-whole : summaryOf E ≡ accepted (record { frames = 1; blocks = 1 })
   -- (10) E plus a byte: 61 at 345; E itself passes, with the totals of its listing
   pub ten : (byte : ℕ) → checkOf (E ++ (byte ∷ [])) ≡ refused (numbered 61 345)
   pub ten-passes : checkOf E ≡ accepted (record { frames = 1; blocks = 1; samples = 2; trailer = 345; paired = true })

@@ -189,4 +189,7 @@ pub record Numbers : Type 0 where
   -- the totals, each in its place: frames 2, blocks 1, samples 5, the trailer's offset, not paired
   pub totals : checkOf T ≡ accepted (record { frames = 2; blocks = 1; samples = 5; trailer = 351; paired = false })
   pub summary : summaryOf T ≡ accepted (record { frames = 2; blocks = 1 })
-  pub summary-cut : summaryOf (take 344 E) ≡ accepted (record { frames = 1; blocks = 1 })
+  -- 02, M-103: a frame that is cut does not count; a chunk at whose last byte the file ends does
+  pub summary-cut : summaryOf (take 326 E) ≡ accepted (record { frames = 0; blocks = 0 })
+  pub summary-last-frame : summaryOf (take 327 E) ≡ accepted (record { frames = 1; blocks = 0 })
+  pub summary-last-block : summaryOf (take 345 E) ≡ accepted (record { frames = 1; blocks = 1 })

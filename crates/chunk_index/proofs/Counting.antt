@@ -77,13 +77,15 @@ module _ {file : List ℕ} {at chunks : ℕ} (h : Headers file at chunks) where
   headers-on {c} l b g r =
       record { at-le = omega (arith, g .there); chunks-le = omega (arith, h .chunks-le); known = sym (known-on file at c g r) ∙ h .known }
 
+  -- at a stop the question is what stands there
+  pub headers-known : {s : Stop} → walk file at ≡ stop s → stopKnown at s ≡ tagsKnown preludeLen (fileWalk file)
+  unfolding tagsKnown
+  headers-known w = sym (ap (tagsKnown at) w) ∙ h .known
+
   -- what is answered at a stop, and at a chunk without a record: n so far, m in all
   pub headers-stop : {A : Type 0} {s : Stop} (n m : A) → walk file at ≡ stop s → m ≡ n
       → andThen (stopKnown at s) (λ _. accepted n) ≡ andThen (tagsKnown preludeLen (fileWalk file)) (λ _. accepted m)
-  unfolding tagsKnown
-  headers-stop {s = s} n m w q =
-      let k : tagsKnown preludeLen (fileWalk file) ≡ stopKnown at s = sym (h .known) ∙ ap (tagsKnown at) w in
-      rw (k, q)
+  headers-stop n m w q = rw (← headers-known w, q)
 
   pub headers-end : {A : Type 0} {c : ChunkAt} (n m : A) → Goes file at c → recordedAt c ≡ false → m ≡ n
       → accepted n ≡ andThen (tagsKnown preludeLen (fileWalk file)) (λ _. accepted m)

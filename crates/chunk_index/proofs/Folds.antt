@@ -1,12 +1,12 @@
--- Records and known tags along the walk: what a step of it means for them. Assumes nothing.
+-- Records, known tags and counts along the walk: what a step of it means for them. Assumes nothing.
 use mathlib.Core.Path.{_≡_, refl, sym, ap, _∙_}
-use mathlib.Core.Bool.{true, false}
+use mathlib.Core.Bool.{Bool, true, false, cond}
 use mathlib.Core.List.{List, [], _∷_}
-use Prim.Native.Nat.{ℕ, _+_, min}
+use Prim.Native.Nat.{ℕ, _+_, _<_, min}
 use native.Mathlib.Decide.{decLe}
 use native.Mathlib.Nat.{lt-of-not-le}
 use native.Mathlib.Omega.{arith}
-use borrow.Author.Tests.{le-leb, lt-leb}
+use borrow.Author.Tests.{le-leb, lt-leb, eq-eqb, ne-eqb}
 use lib.Dec.{leb}
 use lib.ListN.{length}
 use Rattle.error.specs.Answer.{accepted}
@@ -17,10 +17,12 @@ use Rattle.walk.specs.Walk.{Stop, stop, walk}
 use Rattle.walk.specs.declared.ChunkAt.{ChunkAt}
 use Rattle.walk.specs.declared.Kind.{Kind}
 use Rattle.walk.specs.declared.Kind.the-variants.{Frame, Sound}
-use Rattle.walk.proofs.Walks.{Goes, past-is, past-cursor}
+use Rattle.walk.proofs.Walks.{Goes, cut-last, past-is, past-cursor}
 use Rattle.chunk_index.specs.Entry.{entry}
 use Rattle.chunk_index.specs.Index.{recorded, records, tagsKnown}
 use Rattle.chunk_index.specs.Steps.{recordedBy, recordedAt}
+use Rattle.chunk_index.specs.Summary.{counted, countsFrom}
+use Rattle.chunk_index.specs.declared.summary.ChunkCounts.{ChunkCounts}
 
 -- at least so many bytes of a payload are there where they and what is missing do not make more than its length
 there-by : (least there missing size : ℕ) → there + missing ≡ size → leb least there ≡ leb (least + missing) size
@@ -38,6 +40,14 @@ recorded-by Frame payload missing size e = refl
 recorded-by Sound payload missing size e =
     ap (λ (n : ℕ). leb (min 8 n) (length payload)) e ∙ there-by (min 8 size) (length payload) missing size e
 
+-- a chunk of which nothing is missing gets a record
+whole-by : (kind : Kind) (size : ℕ) → recordedBy kind size 0 ≡ true
+whole-by Frame size = refl
+whole-by Sound size = le-leb (min 8 size + 0) size (omega arith)
+
+pub whole-recorded : (c : ChunkAt) → c .missing ≡ 0 → recordedAt c ≡ true
+whole-recorded c m = ap (recordedBy (c .kind) (c .size)) m ∙ whole-by (c .kind) (c .size)
+
 module _ (file : List ℕ) (at : ℕ) (c : ChunkAt) (g : Goes file at c) where
   -- the code's question is the definition's
   pub recorded-is : recorded (c .kind) (payloadAt file at (c .size)) (c .missing) ≡ recordedAt c
@@ -51,6 +61,35 @@ module _ (file : List ℕ) (at : ℕ) (c : ChunkAt) (g : Goes file at c) where
   pub known-end : recordedAt c ≡ false → tagsKnown at (walk file at) ≡ accepted tt
   unfolding tagsKnown
   known-end r = ap (tagsKnown at) (g .is) ∙ rw (recorded-is ∙ r)
+
+  -- so does one that is cut, be it recorded or not
+  pub known-cut : 0 < c .missing → tagsKnown at (walk file at) ≡ accepted tt
+  unfolding tagsKnown
+  known-cut m = go (recordedAt c) refl
+    where
+      go : (b : Bool) → recordedAt c ≡ b → tagsKnown at (walk file at) ≡ accepted tt
+      go true r = known-on r ∙ ap (tagsKnown (at + (8 + c .size))) (cut-last file at c g m)
+      go false r = known-end r
+
+-- counts are the same where both are
+pub same-counts : {s t : ChunkCounts} → s .frames ≡ t .frames → s .blocks ≡ t .blocks → s ≡ t
+same-counts f b = λ i. record { frames = f i; blocks = b i }
+
+module _ (file : List ℕ) (at : ℕ) (c : ChunkAt) (g : Goes file at c) (s : ChunkCounts) where
+  -- past a chunk that is whole the counts go on, with one more; at one that is cut all are counted
+  pub counts-whole : c .missing ≡ 0 → countsFrom s (walk file at) ≡ countsFrom (counted (c .kind) s) (walk file (at + (8 + c .size)))
+  unfolding countsFrom
+  counts-whole m = ap (countsFrom s) (g .is) ∙ rw (recorded-is file at c g ∙ whole-recorded c m, eq-eqb (c .missing) 0 m)
+
+  pub counts-cut : 0 < c .missing → countsFrom s (walk file at) ≡ s
+  unfolding countsFrom
+  counts-cut m =
+      ap (countsFrom s) (g .is)
+      ∙ rw (ne-eqb (c .missing) 0 (λ z. omega arith), cut-last file at c g m) (either (recorded (c .kind) (payloadAt file at (c .size)) (c .missing)))
+    where
+      either : (b : Bool) → cond b s s ≡ s
+      either true = refl
+      either false = refl
 
 -- a walk that stops makes no record
 pub records-stop : (file : List ℕ) (p : Position) {s : Stop} → walk file (p .cursor) ≡ stop s → records p (walk file (p .cursor)) ≡ []

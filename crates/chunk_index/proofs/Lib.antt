@@ -4,5 +4,6 @@ pub mod Counting
 pub mod Summing
 pub mod Writing
 pub mod Building
+pub mod Wholes
 pub mod Sentences
 pub mod Damaged

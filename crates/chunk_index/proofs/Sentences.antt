@@ -3,8 +3,7 @@
 use mathlib.Core.Path.{_≡_, refl, sym, ap, _∙_}
 use mathlib.Core.Bool.{Bool, true, false, cond}
 use mathlib.Core.List.{List, [], _∷_}
-use Prim.Native.Nat.{ℕ, suc, _+_, _*_, _≤_, _<_, min}
-use native.Mathlib.Nat.{add-zero}
+use Prim.Native.Nat.{ℕ, _+_, _*_, _≤_, _<_, min}
 use native.Mathlib.Omega.{arith}
 use borrow.Author.Tests.{le-leb, lt-leb}
 use lib.Dec.{leb}
@@ -21,20 +20,18 @@ use Rattle.fields.specs.File.{withinLimit}
 use Rattle.fields.specs.Le.{leBytes, put}
 use Rattle.demuxer.specs.Head.{headAt, isTrailer, chunkHead}
 use Rattle.prelude.specs.Layout.{preludeLen}
-use Rattle.demuxer.specs.Position.{start}
 use Rattle.demuxer.specs.Read.{payloadAt}
 use Rattle.demuxer.specs.declared.position.Position.{Position}
 use Rattle.demuxer.proofs.Suffixes.{chunk-suffix}
 use Rattle.chunk_index.specs.Entry.{entryLen, entry, tableBytes}
 use Rattle.chunk_index.specs.Index.{recorded, records, tagsKnown, indexOf, builtFrom, buildOf}
-use Rattle.chunk_index.specs.Sentences.{tagged, EndsIn, IndexSentences}
-use Rattle.chunk_index.specs.Summary.{noneCounted, counted, countsFrom, summaryOf}
+use Rattle.chunk_index.specs.Sentences.{EndsIn, IndexSentences}
+use Rattle.chunk_index.specs.Summary.{summaryOf}
 use Rattle.chunk_index.specs.declared.entry.ChunkIndexEntry.{ChunkIndexEntry}
-use Rattle.chunk_index.specs.declared.summary.ChunkCounts.{ChunkCounts}
 use Rattle.chunk_index.proofs.Entries.{length-table}
 use Rattle.chunk_index.proofs.Folds.{records-on, records-end}
-use Rattle.walk.specs.Walk.{ranOut, trailer, unknownTag, chunkAt, onHead, stepAt, Walk, stop, chunk, walk, fileWalk, past}
-use Rattle.walk.specs.declared.Kind.{Kind}
+use Rattle.chunk_index.proofs.Wholes.{summary-counts, one-more}
+use Rattle.walk.specs.Walk.{ranOut, trailer, unknownTag, chunkAt, onHead, stepAt, Walk, stop, chunk, walk, fileWalk}
 use Rattle.walk.specs.declared.Kind.the-variants.{Frame, Sound}
 use Rattle.walk.specs.declared.Step.the-variants as step
 use Rattle.walk.specs.Steps.{pastAt}
@@ -94,51 +91,6 @@ module _ (file part : List ℕ) (p : Position) (size : ℕ) (e : EndsIn file p a
   lost-sound h =
       let c = chunkAt file (p .cursor) Sound size in
       records-end file p c heard (lt-leb (min 8 size + c .missing) size (omega (arith, gone)))
-
--- ---- the summary
-
--- counts on top of those of the records
-abbrev onTop : ChunkCounts → List ChunkIndexEntry → ChunkCounts
-onTop s es = record { frames = s .frames + tagged videoTag es; blocks = s .blocks + tagged audioTag es }
-
-counts-are : (s : ChunkCounts) (p : Position) (w : Walk) → countsFrom s w ≡ onTop s (records p w)
-unfolding countsFrom records tagged
-counts-are s p (stop e) = λ i. record { frames = sym (add-zero (s .frames)) i; blocks = sym (add-zero (s .blocks)) i }
-counts-are s p (chunk kind payload missing rest) =
-    go (recorded kind payload missing) kind (λ k. counts-are (counted k s) (past p k payload missing) rest)
-  where
-    go : (b : Bool) (k : Kind) → ((k : Kind) → countsFrom (counted k s) rest ≡ onTop (counted k s) (records (past p k payload missing) rest))
-        → cond b (countsFrom (counted k s) rest) s ≡ onTop s (cond b (entry k p ∷ records (past p k payload missing) rest) [])
-    go false k later = λ i. record { frames = sym (add-zero (s .frames)) i; blocks = sym (add-zero (s .blocks)) i }
-    go true Frame later =
-        let es = records (past p Frame payload missing) rest in
-        let f : s .frames + 1 + tagged videoTag es ≡ s .frames + suc (tagged videoTag es) = omega arith in
-        later Frame ∙ (λ i. record { frames = f i; blocks = s .blocks + tagged audioTag es })
-    go true Sound later =
-        let es = records (past p Sound payload missing) rest in
-        let f : s .blocks + 1 + tagged audioTag es ≡ s .blocks + suc (tagged audioTag es) = omega arith in
-        later Sound ∙ (λ i. record { frames = s .frames + tagged videoTag es; blocks = f i })
-
-summary-counts : (file : List ℕ)
-    → summaryOf file ≡ andThen (indexOf file) (λ es. accepted (record { frames = tagged videoTag es; blocks = tagged audioTag es }))
-unfolding summaryOf indexOf
-summary-counts file = go (withinLimit file) (tagsKnown preludeLen (fileWalk file))
-  where
-    es : List ChunkIndexEntry
-    es = records start (fileWalk file)
-
-    zero-top : onTop noneCounted es ≡ record { frames = tagged videoTag es; blocks = tagged audioTag es }
-    zero-top =
-        let f : 0 + tagged videoTag es ≡ tagged videoTag es = omega arith in
-        let b : 0 + tagged audioTag es ≡ tagged audioTag es = omega arith in
-        λ i. record { frames = f i; blocks = b i }
-
-    go : (b : Bool) (known : Answer Unit)
-        → ask b 10 0 (andThen known (λ _. accepted (countsFrom noneCounted (fileWalk file))))
-        ≡ andThen (ask b 10 0 (andThen known (λ _. accepted es))) (λ es. accepted (record { frames = tagged videoTag es; blocks = tagged audioTag es }))
-    go false known = refl
-    go true (refused r) = refl
-    go true (accepted u) = ap accepted (counts-are noneCounted start (fileWalk file) ∙ zero-top)
 
 -- ---- the table
 
@@ -229,6 +181,7 @@ index-sentences =
       cut-sound = cut-sound;
       lost-sound = lost-sound;
       summary-counts = summary-counts;
+      one-more = one-more;
       count = λ file table n e. let f = built file table n e in (f .entries, f .indexed-as, f .count-is);
       after-stay = after-stay;
       gives-back = gives-back;

@@ -2,6 +2,7 @@
 use mathlib.Core.Bool.{cond}
 use mathlib.Core.List.{List}
 use Prim.Native.Nat.{ℕ, _+_}
+use lib.Dec.{eqb}
 use Rattle.error.specs.Answer.{Answer, accepted, refused, ask, andThen}
 use Rattle.error.specs.Refusal.{refusalOf}
 use Rattle.fields.specs.File.{withinLimit}
@@ -22,17 +23,16 @@ abbrev pub counted : Kind → ChunkCounts → ChunkCounts
 counted Frame s = record { frames = s .frames + 1; blocks = s .blocks }
 counted Sound s = record { frames = s .frames; blocks = s .blocks + 1 }
 
--- 01: "frames and blocks as counts of the records its index walk makes", on top of s
+-- 02, M-103: "count exactly the chunks of its walk whose payload is whole". Its walk is the index's: past each chunk with a record, on top of s.
 unfoldable pub countsFrom : ChunkCounts → Walk → ChunkCounts
 countsFrom s (stop e) = s
-countsFrom s (chunk kind payload missing rest) = cond (recorded kind payload missing) (countsFrom (counted kind s) rest) s
+countsFrom s (chunk kind payload missing rest) =
+    cond (recorded kind payload missing) (countsFrom (cond (eqb missing 0) (counted kind s) s) rest) s
 
--- "10, then 31, as there"
-abbrev pub countChunks : List ℕ → Answer ChunkCounts
-countChunks file = andThen (tagsKnown preludeLen (fileWalk file)) (λ _. accepted (countsFrom noneCounted (fileWalk file)))
-
+-- 01: "10, then 31, as there"
 unfoldable pub summaryOf : List ℕ → Answer ChunkCounts
-summaryOf file = ask (withinLimit file) 10 0 (countChunks file)
+summaryOf file =
+    ask (withinLimit file) 10 0 (andThen (tagsKnown preludeLen (fileWalk file)) (λ _. accepted (countsFrom noneCounted (fileWalk file))))
 
 abbrev pub saidSummary : SummaryResult → Answer ChunkCounts
 saidSummary (Ok s) = accepted s

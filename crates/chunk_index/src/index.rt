@@ -26,7 +26,7 @@ pub enum IndexResult {
 }
 
 // Whether a chunk of the walk gets a record: a frame always, sound where min(8, length) bytes of its payload are there.
-pub fn recorded(chunk: ChunkAt) -> bool
+fn recorded(chunk: ChunkAt) -> bool
     ensures { λ r. ⌜ r ≡ recordedAt chunk ⌝ }
 {
     let kind = chunk.kind;

@@ -1,8 +1,8 @@
-// The summary: how many frames and blocks a file has.
-use crate::index::recorded;
+// The summary: how many whole frames and blocks a file has, which are those that it plays.
 use chunk::advance_total;
 use demuxer::walker::Walker;
 use error::AmvError;
+use error::AmvResult;
 use walk::Kind;
 use walk::Step;
 use walk::step_at;
@@ -11,7 +11,8 @@ ghost use Prim.Native.Nat.{_≤_};
 ghost use lib.ListN.{length};
 ghost use Rattle.fields.specs.File.{fileLimit};
 ghost use Rattle.demuxer.specs.Position.{countLimit};
-ghost use Rattle.chunk_index.specs.Summary.{counted, countChunks, summaryOf, saidSummary};
+ghost use Rattle.chunk_index.specs.Steps.{IsCount};
+ghost use Rattle.chunk_index.specs.Summary.{counted, summaryOf, saidSummary};
 
 // Frames and blocks.
 pub struct ChunkCounts {
@@ -45,10 +46,17 @@ pub enum SummaryResult {
     Err(AmvError),
 }
 
-// Counts the chunks of the walk. It reads headers only.
-fn count_chunks(file: &[u8]) -> SummaryResult
+// What a walk counts, and whether it knows every tag. Counts and refusal do not share their bytes, as they do in a result: the loop would keep
+// the counts in pieces.
+struct Counted {
+    counts: ChunkCounts,
+    known: AmvResult,
+}
+
+// Counts the whole chunks of the walk. It reads headers only.
+fn count_chunks(file: &[u8]) -> Counted
     requires { ⌜ length (now file) ≤ fileLimit ⌝ }
-    ensures { λ r. ⌜ saidSummary r ≡ countChunks (now (file .entry)) ⌝ }
+    ensures { λ r. ⌜ IsCount (now (file .entry)) r ⌝ }
 {
     let mut at: usize = Walker::START as usize;
     let mut counts = ChunkCounts {
@@ -58,17 +66,30 @@ fn count_chunks(file: &[u8]) -> SummaryResult
     loop {
         match step_at(file, at) {
             Step::RanOut => {
-                return SummaryResult::Ok(counts);
+                return Counted {
+                    counts,
+                    known: AmvResult::Ok,
+                };
             }
             Step::Trailer => {
-                return SummaryResult::Ok(counts);
+                return Counted {
+                    counts,
+                    known: AmvResult::Ok,
+                };
             }
             Step::UnknownTag => {
-                return SummaryResult::Err(AmvError::UnknownTag(at as u64));
+                return Counted {
+                    counts,
+                    known: AmvResult::Err(AmvError::UnknownTag(at as u64)),
+                };
             }
             Step::Chunk(chunk) => {
-                if !recorded(chunk) {
-                    return SummaryResult::Ok(counts);
+                // The file ends inside a chunk that is cut, and with it the walk.
+                if chunk.missing > 0 {
+                    return Counted {
+                        counts,
+                        known: AmvResult::Ok,
+                    };
                 }
                 let kind = chunk.kind;
                 counts = counts.counted(kind);
@@ -78,13 +99,19 @@ fn count_chunks(file: &[u8]) -> SummaryResult
     }
 }
 
-// The frames and blocks that the index has records of. Refuses a file over the limit (10) and an unknown tag (31, at the chunk).
+// The frames and blocks that reads give of a file: those of the index's walk whose payload is whole. The index can have one record more, that
+// of the chunk in which the file ends. Refuses a file over the limit (10) and an unknown tag (31, at the chunk).
 pub fn summary(file: &[u8]) -> SummaryResult
     ensures { λ r. ⌜ saidSummary r ≡ summaryOf (now (file .entry)) ⌝ }
 {
-    if fields::file::within_limit(file) {
-        count_chunks(file)
-    } else {
-        SummaryResult::Err(AmvError::FileTooLong)
+    if !fields::file::within_limit(file) {
+        return SummaryResult::Err(AmvError::FileTooLong);
+    }
+    let counted = count_chunks(file);
+    let counts = counted.counts;
+    let known = counted.known;
+    match known {
+        AmvResult::Ok => SummaryResult::Ok(counts),
+        AmvResult::Err(e) => SummaryResult::Err(e),
     }
 }
