@@ -41,7 +41,7 @@ use Rattle.demuxer.proofs.Suffixes.{chunk-suffix, trailer-suffix, paylo
 -- ---- by the bytes at the cursor
 
 -- a read that 10 and 32 let pass looks at the cursor
-looks : (file : List ℕ) (w : Walker) → length file ≤ fileLimit → InRange (w .position) → w .end ≡ false
+pub looks : (file : List ℕ) (w : Walker) → length file ≤ fileLimit → InRange (w .position) → w .end ≡ false
     → {h : Head} → headAt file (w .position .cursor) ≡ h → readOf file w ≡ readHead file w h
 unfolding readChunk
 looks file w within range going e = read-on file w (le-leb (length file) fileLimit within) (in-range (w .position) range) going ∙ ap (readHead file w) e

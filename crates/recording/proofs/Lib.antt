@@ -8,4 +8,5 @@ pub mod Writes
 pub mod Numbers
 pub mod Runs
 pub mod ByValue
+pub mod Summaries
 pub mod Together

@@ -38,7 +38,7 @@ unfoldable pub marks : Position → List Chunk → List ChunkIndexEntry
 marks p [] = []
 marks p (chunkOf kind payload ∷ cs) = entry kind p ∷ marks (passed p kind payload) cs
 
-recorded-whole : (kind : Kind) (payload : List ℕ) → recorded kind payload 0 ≡ true
+pub recorded-whole : (kind : Kind) (payload : List ℕ) → recorded kind payload 0 ≡ true
 recorded-whole Frame payload = refl
 recorded-whole Sound payload = le-leb (min 8 (length payload + 0)) (length payload) (omega arith)
 
