@@ -33,9 +33,9 @@ extern "C" {
 /* The version of this header and its library: a change of what a call answers, of a state's words or of a record's bytes moves the second
  * number while the first is 0, and an addition the third. */
 #define AMV_VERSION_MAJOR 0
-#define AMV_VERSION_MINOR 1
-#define AMV_VERSION_PATCH 2
-#define AMV_VERSION "0.1.2"
+#define AMV_VERSION_MINOR 2
+#define AMV_VERSION_PATCH 0
+#define AMV_VERSION "0.2.0"
 
 /* A file's longest length in bytes; the bytes of a prelude, at whose end the first chunk stands. */
 #define AMV_FILE_LIMIT 4294967295
@@ -192,8 +192,9 @@ enum {
 enum { AMV_DECODE_COUNT = 1, AMV_DECODE_WORDS };
 uint32_t amv_decode_block(const uint8_t *block, size_t len, int16_t *samples, size_t samples_len, uint64_t out[AMV_DECODE_WORDS]);
 
-/* How many frames and blocks a file has, by its index walk: as many as its index has records of each kind. out: place, frames, blocks.
- * Refuses with 10 and 31. */
+/* How many frames and blocks a file plays: as many as reads of amv_next_packet from a fresh walker give. A chunk that is cut does not count.
+ * The index has a record for each that counts, and one more where it records a chunk that is cut, which is then its last: a table of
+ * (frames + blocks + 1) * AMV_ENTRY_LEN bytes is always enough. out: place, frames, blocks. Refuses with 10 and 31, as the index does. */
 enum { AMV_SUMMARY_FRAMES = 1, AMV_SUMMARY_BLOCKS, AMV_SUMMARY_WORDS };
 uint32_t amv_summary(const uint8_t *file, size_t len, uint64_t out[AMV_SUMMARY_WORDS]);
 

@@ -160,6 +160,12 @@ static void index_and_jump(void)
     EXPECT(AMV_OK, amv_summary(file, len, counts));
     EXPECT(1, counts[AMV_SUMMARY_FRAMES]);
     EXPECT(2, counts[AMV_SUMMARY_BLOCKS]);
+    /* A file that ends in the frame plays the block before it, and has a record of both. */
+    EXPECT(AMV_OK, amv_summary(file, 316 + 18 + 10, counts));
+    EXPECT(0, counts[AMV_SUMMARY_FRAMES]);
+    EXPECT(1, counts[AMV_SUMMARY_BLOCKS]);
+    EXPECT(AMV_OK, amv_build_chunk_index(file, 316 + 18 + 10, table, sizeof table, out));
+    EXPECT(2, out[AMV_INDEX_COUNT]);
     /* A file that is damaged at the last chunk: its first bytes have an index of the two before. */
     uint8_t damaged[sizeof file];
     memcpy(damaged, file, len);

@@ -75,8 +75,8 @@ static bool open_recording(const char *name, struct recording *r)
     return true;
 }
 
-/* Leaves of a damaged file what stands before the damage; that has an index. The summary says how many records there will be. */
-static bool count_records(struct recording *r, uint64_t counts[AMV_SUMMARY_WORDS])
+/* Leaves of a damaged file what stands before the damage; that has a summary and an index. The summary is what the file plays. */
+static bool show_summary(struct recording *r, uint64_t counts[AMV_SUMMARY_WORDS])
 {
     uint32_t number = amv_summary(r->file, r->len, counts);
     if (number == AMV_ERROR_UNKNOWN_TAG) {
@@ -84,23 +84,27 @@ static bool count_records(struct recording *r, uint64_t counts[AMV_SUMMARY_WORDS
         r->len = (size_t)counts[AMV_PLACE];
         number = amv_summary(r->file, r->len, counts);
     }
-    if (number != AMV_OK)
+    if (number == AMV_OK)
+        printf("plays %" PRIu64 " pictures and %" PRIu64 " sound blocks\n", counts[AMV_SUMMARY_FRAMES], counts[AMV_SUMMARY_BLOCKS]);
+    else
         show_refusal("summary", number, counts);
     return number == AMV_OK;
 }
 
+/* The index has a record for each chunk that plays, and at most one more: that of a chunk in which the file ends. */
 static bool build_index(struct recording *r, struct table *table)
 {
     uint64_t counts[AMV_SUMMARY_WORDS], out[AMV_INDEX_WORDS];
-    if (!count_records(r, counts))
+    if (!show_summary(r, counts))
         return false;
-    table->len = AMV_ENTRY_LEN * (size_t)(counts[AMV_SUMMARY_FRAMES] + counts[AMV_SUMMARY_BLOCKS]);
-    table->records = malloc(table->len + 1);
+    size_t room = AMV_ENTRY_LEN * (size_t)(counts[AMV_SUMMARY_FRAMES] + counts[AMV_SUMMARY_BLOCKS] + 1);
+    table->records = malloc(room);
     if (table->records == NULL) {
         perror("index");
         return false;
     }
-    uint32_t number = amv_build_chunk_index(r->file, r->len, table->records, table->len, out);
+    uint32_t number = amv_build_chunk_index(r->file, r->len, table->records, room, out);
+    table->len = AMV_ENTRY_LEN * (size_t)out[AMV_INDEX_COUNT];
     if (number != AMV_OK) {
         show_refusal("index", number, out);
         free(table->records);

@@ -176,8 +176,9 @@ impl ChunkIndex {
     /// bytes have an index, so go on with `&file[..p]`.
     pub fn build(file: &[u8]) -> Result<ChunkIndex> {
         let counts = summary(file)?;
-        let count = (counts.frames + counts.blocks) as usize;
-        let mut records = vec![0; count * ChunkIndexEntry::LEN];
+        // A chunk that is cut does not count, and may have a record.
+        let most = (counts.frames + counts.blocks + 1) as usize;
+        let mut records = vec![0; most * ChunkIndexEntry::LEN];
         let mut out = [0; 2];
         let number = unsafe {
             sys::amv_build_chunk_index(
@@ -188,7 +189,9 @@ impl ChunkIndex {
                 &mut out,
             )
         };
-        answer(number, out).map(|_| ChunkIndex { records })
+        let count = answer(number, out)?[1] as usize;
+        records.truncate(count * ChunkIndexEntry::LEN);
+        Ok(ChunkIndex { records })
     }
 
     /// Records from elsewhere, taken as they are: a jump over them, and their page, ask whether they are good.
@@ -622,7 +625,7 @@ pub fn check(file: &[u8]) -> Result<Totals> {
     })
 }
 
-/// The records that a file's index has, by kind.
+/// What a file plays, by kind.
 #[derive(Clone, Copy, Debug, PartialEq, Eq)]
 pub struct ChunkCounts {
     /// The pictures.
@@ -631,7 +634,8 @@ pub struct ChunkCounts {
     pub blocks: u64,
 }
 
-/// How many pictures and blocks a file has, by its index walk: as many as its index has records of each kind. Refuses with 10 and 31.
+/// How many pictures and blocks a file plays: as many as reads from its start give. A chunk that is cut does not count; the index may have
+/// a record of it, which is then its last. Refuses with 10 and 31, as the index does.
 pub fn summary(file: &[u8]) -> Result<ChunkCounts> {
     let mut out = [0; 3];
     let number = unsafe { sys::amv_summary(file.as_ptr(), file.len(), &mut out) };

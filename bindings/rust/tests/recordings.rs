@@ -52,6 +52,15 @@ fn sent(packets: &[Packet]) -> Vec<(u32, Vec<u8>)> {
         .collect()
 }
 
+/// Where the prelude ends, and each chunk.
+fn ends(packets: &[(u32, Vec<u8>)]) -> Vec<usize> {
+    let mut ends = vec![316];
+    for (_, data) in packets {
+        ends.push(ends.last().unwrap() + 8 + data.len());
+    }
+    ends
+}
+
 /// 01's small file.
 fn small() -> Vec<u8> {
     let settings = Settings {
@@ -133,10 +142,7 @@ fn every_jump_has_its_own_sound_and_clock() {
 fn every_cut_is_told_and_leaves_the_packets_before_it() {
     let packets = packets();
     let file = write(&packets);
-    let mut ends = vec![316];
-    for (_, data) in &packets {
-        ends.push(ends.last().unwrap() + 8 + data.len());
-    }
+    let ends = ends(&packets);
     for len in 0..file.len() {
         let cut = &file[..len];
         let refused = check(cut).unwrap_err();
@@ -157,6 +163,30 @@ fn every_cut_is_told_and_leaves_the_packets_before_it() {
         assert_eq!(sent(&drain(&mut demuxer)), packets[..whole]);
         assert!(demuxer.is_truncated());
         assert_eq!(demuxer.trailer_offset(), None);
+    }
+}
+
+#[test]
+fn a_cut_recording_shows_what_it_plays() {
+    let packets = packets();
+    let file = write(&packets);
+    let ends = ends(&packets);
+    for len in 316..=file.len() {
+        let cut = &file[..len];
+        let whole = ends.iter().filter(|end| **end <= len).count() - 1;
+        let frames = packets[..whole].iter().filter(|(stream, _)| *stream == 0);
+        let frames = frames.count() as u64;
+        let blocks = whole as u64 - frames;
+        assert_eq!(summary(cut), Ok(ChunkCounts { frames, blocks }));
+        // The index has a record more of a picture whose header is there, and of sound with 8 bytes of its payload.
+        let there = len - ends[whole];
+        let recorded = match packets.get(whole) {
+            Some((0, _)) => there >= 8,
+            Some((_, data)) => there >= 8 + data.len().min(8),
+            None => false,
+        };
+        let index = ChunkIndex::build(cut).unwrap();
+        assert_eq!(index.entries().count(), whole + usize::from(recorded));
     }
 }
 
