@@ -353,23 +353,27 @@ pub fn decode_block(tally: &mut Tally, block: &[u8], given: &[i16]) {
     });
 }
 
-/// The summary. The original has none: its records are counted.
+/// The summary. The original has none: it refuses what the original's index does, and else says what the original's reads give. The index
+/// has a record more where the chunk of its last is cut.
 pub fn summary(tally: &mut Tally, original: &mut original::File, file: &[u8]) {
     let plain = PLAIN.summary(file);
     let library = LIBRARY.summary(file);
-    let counted = match original.records() {
-        Err(Told::Said(said)) => refused(said.number, said.out[0]),
-        Err(_) => refused(u32::MAX, 0),
-        Ok(records) => {
-            let frames = records.iter().filter(|r| r.tag == plain::VIDEO).count();
-            accepted(&[frames as u64, (records.len() - frames) as u64])
-        }
+    let (stated, records) = match original.records() {
+        Err(Told::Said(said)) => (refused(said.number, said.out[0]), Vec::new()),
+        Err(_) => (refused(u32::MAX, 0), Vec::new()),
+        Ok(records) => (accepted(&original.drained()), records),
     };
-    let same = plain == library && plain == counted;
+    let last_cut = records.last().is_some_and(|last| {
+        let payload = last.offset as usize + 8;
+        file.len() - payload < plain::u32_at(file, payload - 4) as usize
+    });
+    let counted = library.out[1] + library.out[2] + last_cut as u64;
+    let same = plain == library && plain == stated && records.len() as u64 == counted;
     tally.judge("summary", same, || {
         format!(
-            "{}: plain {plain:?}, library {library:?}, original {counted:?}",
-            hex(file)
+            "{}: plain {plain:?}, library {library:?}, original {stated:?}, {} records",
+            hex(file),
+            records.len()
         )
     });
 }

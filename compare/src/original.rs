@@ -218,6 +218,18 @@ impl File {
         ]
     }
 
+    /// The packets of each stream that reads from the start give, until the first that gives none.
+    pub fn drained(&mut self) -> [u64; 2] {
+        let mut walker = Walker::fresh();
+        let mut counts = [0; 2];
+        while let Told::Said(said) = self.next_packet(&mut walker)
+            && said.out[1] == 1
+        {
+            counts[said.out[2] as usize] += 1;
+        }
+        counts
+    }
+
     /// The records, or the refusal.
     pub fn records(&mut self) -> Result<Vec<Record>, Told<2>> {
         self.demuxer
