@@ -119,6 +119,12 @@ fn races(runs: usize) {
     race("index, frames and blocks", runs, count, |side| {
         (side.index)(&paired, &mut table)
     });
+    race("summary, 60 KiB of 16-byte frames", runs, count, |side| {
+        (side.summary)(&frames)
+    });
+    race("summary, frames and blocks", runs, count, |side| {
+        (side.summary)(&paired)
+    });
     race("drain, 60 KiB of 16-byte frames", runs, count, |side| {
         (side.drain)(&frames)
     });

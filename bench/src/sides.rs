@@ -7,6 +7,7 @@ use plain::{PRELUDE, RECORD, Settings, Walker, Writer, calls};
 /// Each run gives a number that depends on its answers, so that the sides can be compared.
 pub struct Side {
     pub index: fn(&[u8], &mut [u8]) -> u64,
+    pub summary: fn(&[u8]) -> u64,
     pub drain: fn(&[u8]) -> u64,
     pub seeks: fn(&[u8]) -> u64,
     pub page: fn(&[u8], &mut [u8]) -> u64,
@@ -40,9 +41,14 @@ fn last_sample(samples: &[i16]) -> u64 {
 
 /// The two sides that have the C interface differ in the functions alone.
 macro_rules! side_of_words {
-    ($next:path, $index:path, $seek:path, $print:path, $decode:path, $check:path, $header:path, $packet:path, $trailer:path) => {
+    ($next:path, $index:path, $summary:path, $seek:path, $print:path, $decode:path, $check:path, $header:path, $packet:path, $trailer:path) => {
         Side {
             index: |file, table| fill($index, file, table),
+            summary: |file| {
+                let mut out = [0; 3];
+                let number = unsafe { $summary(file.as_ptr(), file.len(), &mut out) };
+                out[1] + (out[2] << 32) + number as u64
+            },
             drain: |file| {
                 let (mut walker, mut out) = (FRESH, [0; 7]);
                 let mut sum = 0;
@@ -102,6 +108,7 @@ macro_rules! side_of_words {
 pub const LIBRARY: Side = side_of_words!(
     c::amv_next_packet,
     c::amv_build_chunk_index,
+    c::amv_summary,
     c::amv_seek_to_via_index,
     c::amv_print_index,
     c::amv_decode_block,
@@ -114,6 +121,7 @@ pub const LIBRARY: Side = side_of_words!(
 pub const WORDS: Side = side_of_words!(
     words::next_packet,
     words::build_chunk_index,
+    words::summary,
     words::seek_to_via_index,
     words::print_index,
     words::decode_block_by_table,
@@ -125,6 +133,10 @@ pub const WORDS: Side = side_of_words!(
 
 pub const CALLS: Side = Side {
     index: |file, table| calls::build_chunk_index(file, table).unwrap(),
+    summary: |file| {
+        let (frames, blocks) = calls::summary(file).unwrap();
+        frames + (blocks << 32)
+    },
     drain: |file| {
         let mut walker = Walker::fresh();
         let mut sum = 0;

@@ -14,6 +14,12 @@ pub fn build_chunk_index(file: &[u8], table: &mut [u8]) -> Answer<u64> {
     crate::build_chunk_index(file, table)
 }
 
+/// The summary.
+#[inline(never)]
+pub fn summary(file: &[u8]) -> Answer<(u64, u64)> {
+    crate::summary(file)
+}
+
 /// A jump.
 #[inline(never)]
 pub fn seek_to_via_index(
