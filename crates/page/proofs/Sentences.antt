@@ -3,39 +3,27 @@
 use mathlib.Core.Path.{_≡_, refl, sym, ap, _∙_, subst}
 use mathlib.Core.Bool.{true, false}
 use mathlib.Core.List.{List, [], _∷_, _++_, map}
-use Prim.Native.Nat.{ℕ, zero, suc, _+_, _*_, _/_, _%_, _<_}
+use Prim.Native.Nat.{ℕ, zero, suc, _+_, _*_, _/_, _<_}
 use native.Mathlib.Nat.{zero-add}
 use native.Mathlib.Omega.{arith}
-use borrow.Author.Tests.{eqb-true}
-use lib.Dec.{eqb}
 use lib.ListN.{length, take, drop}
 use lib.Seq.{drop-at}
 use Rattle.error.specs.Answer.{Answer, accepted, refused, numbered, numberOf, andThen}
 use Rattle.error.specs.Sentences.{oneOf, RefusedBy}
 use Rattle.error.specs.declared.Refusal.{Refusal}
-use Rattle.error.proofs.Answers.{never, clash, accepted-same, then-passed, ask-passed}
-use Rattle.error.proofs.Sentences.{then-by}
+use Rattle.error.proofs.Answers.{never, clash, accepted-same}
 use Rattle.fields.specs.Le.{Bytes, put}
 use Rattle.fields.proofs.Laws.{front-put}
 use Rattle.chunk_index.specs.Entry.{entryLen, entriesFrom, entriesOf}
 use Rattle.chunk_index.specs.declared.entry.ChunkIndexEntry.{ChunkIndexEntry}
-use Rattle.table.specs.Table.{wholeRecords, goodEntry, goodEntries, tableQuestions}
-use Rattle.table.specs.Sentences.{AllPass, FirstNo}
-use Rattle.table.proofs.Sentences.{whole-by, each-by, each-sentences}
+use Rattle.table.specs.Table.{goodEntry}
+use Rattle.table.specs.Sentences.{AllPass, FirstNo, Good}
+use Rattle.table.proofs.Sentences.{each-by, table-by, good, each-sentences}
 use Rattle.page.specs.Page.{narrowSamples, pageLine, pageLines, pageQuestions, printedFrom, printOf}
 use Rattle.page.specs.Reading.{readLine, linesOf}
-use Rattle.page.specs.Sentences.{Each, GoodLine, AllAligned, shownOf, Good, PageSentences}
+use Rattle.page.specs.Sentences.{Each, GoodLine, AllAligned, shownOf, PageSentences}
 use Rattle.page.proofs.Lines.{narrow-below, narrow-above, entry-fits, Passed, page-cases, questions-passed}
 use Rattle.page.proofs.Reading.{Lined, length-lines, lines-back, all-read, all-aligned, all-good}
-
--- what 41 and 43 have let pass
-good : (table : List ℕ) → tableQuestions table ≡ accepted tt → Good table
-good table h =
-    let p = then-passed (wholeRecords table) (λ _. goodEntries (entriesOf table)) h in
-    record {
-      whole = eqb-true _ _ (ask-passed (eqb (length table % entryLen) 0) 41 0 (accepted tt) (p .0) .0);
-      records = each-sentences .accepted-all goodEntry 43 (entriesOf table) (p .1);
-    }
 
 -- ---- an accepted page
 
@@ -132,15 +120,11 @@ tells-apart table page table′ page′ n n′ b b′ h h′ e =
 
 -- ---- a refusal
 
-asked-of-table : (ns : List ℕ) → oneOf ns 41 ≡ true → oneOf ns 43 ≡ true → (table : List ℕ) → RefusedBy ns (tableQuestions table)
-asked-of-table ns a b table =
-    then-by ns (wholeRecords table) (λ _. goodEntries (entriesOf table)) (whole-by ns a table) (λ u. each-by ns goodEntry 43 b 0 (entriesOf table))
-
 asked : (table : List ℕ) (room : ℕ) → RefusedBy (41 ∷ 43 ∷ 70 ∷ 40 ∷ []) (pageQuestions table room)
 asked table room =
     let ns : List ℕ = 41 ∷ 43 ∷ 70 ∷ 40 ∷ [] in
     page-cases table room (RefusedBy ns)
-    (λ r e. subst (RefusedBy ns) e (asked-of-table ns refl refl table))
+    (λ r e. subst (RefusedBy ns) e (table-by ns refl refl table))
     (λ r g e. subst (RefusedBy ns) e (each-by ns narrowSamples 70 refl 0 (entriesOf table)))
     (λ g n e. refl)
     (λ p. tt)
@@ -179,7 +163,7 @@ module _ (table page : List ℕ) where
   seventy at h =
       page-cases table (length page)
       (λ (q : Answer Unit). q ≡ refused (numbered 70 at) → Good table × FirstNo narrowSamples (entriesOf table) at)
-      (λ r e a. not-by (41 ∷ 43 ∷ []) r 70 at (subst (RefusedBy (41 ∷ 43 ∷ [])) e (asked-of-table (41 ∷ 43 ∷ []) refl refl table)) a refl)
+      (λ r e a. not-by (41 ∷ 43 ∷ []) r 70 at (subst (RefusedBy (41 ∷ 43 ∷ [])) e (table-by (41 ∷ 43 ∷ []) refl refl table)) a refl)
       (λ r g e a. (good table g, each-sentences .refused-first narrowSamples 70 (entriesOf table) (numbered 70 at) (e ∙ a) .1))
       (λ g n e a. not-by (40 ∷ []) (numbered 40 0) 70 at refl a refl)
       (λ p a. never a)
@@ -191,7 +175,7 @@ module _ (table page : List ℕ) where
       page-cases table (length page)
       (λ (q : Answer Unit). q ≡ refused (numbered 40 at)
       → Good table × AllPass narrowSamples (entriesOf table) × (length page < 40 * length (entriesOf table)))
-      (λ r e a. not-by (41 ∷ 43 ∷ []) r 40 at (subst (RefusedBy (41 ∷ 43 ∷ [])) e (asked-of-table (41 ∷ 43 ∷ []) refl refl table)) a refl)
+      (λ r e a. not-by (41 ∷ 43 ∷ []) r 40 at (subst (RefusedBy (41 ∷ 43 ∷ [])) e (table-by (41 ∷ 43 ∷ []) refl refl table)) a refl)
       (λ r g e a. not-by (70 ∷ []) r 40 at (subst (RefusedBy (70 ∷ [])) e (each-by (70 ∷ []) narrowSamples 70 refl 0 (entriesOf table))) a refl)
       (λ g n e a. (good table g, each-sentences .accepted-all narrowSamples 70 (entriesOf table) n, e))
       (λ p a. never a)

@@ -1,6 +1,6 @@
 -- 02's sentences about the page, a second time: by what is read from it. Assumes nothing.
 use mathlib.Core.Path.{_≡_}
-use Prim.Native.Nat.{ℕ, _*_, _%_, _≤_, _<_}
+use Prim.Native.Nat.{ℕ, _*_, _≤_, _<_}
 use mathlib.Core.Bool.{true, false}
 use mathlib.Core.List.{List, [], _∷_, _++_, map}
 use mathlib.Core.Option.{some}
@@ -10,8 +10,7 @@ use Rattle.error.specs.Sentences.{GivesBack, RefusedBy}
 use Rattle.fields.specs.Le.{Bytes}
 use Rattle.chunk_index.specs.Entry.{entriesOf}
 use Rattle.chunk_index.specs.declared.entry.ChunkIndexEntry.{ChunkIndexEntry}
-use Rattle.table.specs.Table.{goodEntry}
-use Rattle.table.specs.Sentences.{AllPass, FirstNo}
+use Rattle.table.specs.Sentences.{AllPass, FirstNo, Good}
 use Rattle.page.specs.Page.{narrowSamples, printOf}
 use Rattle.page.specs.Reading.{fromTo, numberIn, Shown, readLine, linesOf}
 
@@ -57,11 +56,6 @@ AllAligned (line ∷ lines) (e ∷ es) = Aligned line e × AllAligned lines es
 -- what a record's line is to show
 abbrev pub shownOf : ChunkIndexEntry → Shown
 shownOf e = record { tag = some (e .tag); offset = e .position .cursor; frames = e .position .frames .0; samples = e .position .samples .0 }
-
--- 41 and 43 have been answered with yes, the second of every record
-pub record Good (table : List ℕ) : Type 0 where
-  pub whole : length table % 24 ≡ 0
-  pub records : AllPass goodEntry (entriesOf table)
 
 -- of every table of bytes, as a lent one is
 pub record PageSentences : Type 0 where
