@@ -4,7 +4,6 @@ use mathlib.Core.Path.{_≡_, refl, sym, ap, subst, _∙_}
 use Prim.Native.Nat.{ℕ, _+_}
 use mathlib.Core.Bool.{Bool, true, false, cond}
 use mathlib.Core.List.{List, [], List·Memᴰ, List·Memᴰ·not-nil}
-use mathlib.Core.Option.{Option, none, some}
 use native.Mathlib.Omega.{arith}
 use borrow.Author.Tests.{ne-eqb, leb-true}
 use lib.Dec.{leb}
@@ -21,12 +20,11 @@ use Rattle.demuxer.specs.Read as demuxer
 use Rattle.demuxer.proofs.Ranges.{range-facts}
 use Rattle.demuxer.specs.declared.head.Head.{Head}
 use Rattle.demuxer.specs.declared.head.Head.the-variants as head
-use Rattle.demuxer.specs.declared.position.Position.{Position}
 use Rattle.demuxer.specs.declared.walker.Trailer.{Trailer}
 use Rattle.demuxer.specs.declared.walker.Trailer.the-variants.{At}
 use Rattle.demuxer.specs.declared.walker.Walker.{Walker}
-use Rattle.chunk_index.specs.Entry.{entriesOf}
-use Rattle.seek.specs.Seek.{seekQuestions, find, landed, soughtFrom, seekOf}
+use Rattle.seek.specs.Seek.{seekOf}
+use Rattle.seek.proofs.Sentences.{seek-sentences}
 use Rattle.muxer.specs.Writer.{outcome, headerQuestions, headerCall, packetQuestions, packetCall, trailerQuestions, trailerCall}
 use Rattle.muxer.specs.Writer as muxer
 use Rattle.muxer.specs.declared.Settings.{Settings}
@@ -86,15 +84,6 @@ module _ (file : List ℕ) (w : Walker) (s : Spelt (w .trailer)) where
       go true true true r = s
       go true true false r = head-spelt r (headAt file (w .position .cursor))
 
-seek-stays : (table : List ℕ) (stream : ℕ) (request : ℤ) (w : Walker) → seekWalker table stream request w .trailer ≡ w .trailer
-unfolding seekOf
-seek-stays table stream request w = go (seekQuestions table w stream) (find stream request (entriesOf table))
-  where
-    go : (q : Answer Unit) (f : Option Position) → soughtFrom q w (landed (entriesOf table) w stream f) .walker .trailer ≡ w .trailer
-    go (accepted u) none = refl
-    go (accepted u) (some p) = refl
-    go (refused r) f = refl
-
 -- the words of a walker that they spell
 abbrev Stands : List ℕ → Walker → Type 0
 Stands ws w = (ws ≡ walkerWords w) × Spelt (w .trailer)
@@ -121,7 +110,7 @@ calling file table s (seek stream request) answer next w i (seeks number out h) 
   ap machine.seekAnswer (seek-told _ (walker-says (seekAnswer table stream request) (seekWalker table stream request) w i h)),
   (
     walker-left (seekAnswer table stream request) (seekWalker table stream request) w i h,
-    subst Spelt (sym (seek-stays table stream request w)) (i .1),
+    subst Spelt (sym (seek-sentences .trailer-stays table w stream request)) (i .1),
   ),
 )
 

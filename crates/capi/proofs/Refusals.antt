@@ -2,7 +2,6 @@
 use mathlib.Core.Path.{_≡_, refl, ap, _∙_}
 use Prim.Native.Nat.{ℕ, _*_}
 use mathlib.Core.List.{List}
-use mathlib.Core.Option.{Option, none, some}
 use lib.Dec.{leb}
 use lib.IntN.{ℤ}
 use lib.ListN.{length}
@@ -12,12 +11,12 @@ use Rattle.error.specs.declared.Refusal.{Refusal}
 use Rattle.demuxer.specs.Read.{ReadAnswer, End}
 use Rattle.demuxer.specs.Read as read
 use Rattle.demuxer.proofs.Outcomes.{refused-stays}
-use Rattle.demuxer.specs.declared.position.Position.{Position}
 use Rattle.demuxer.specs.declared.walker.Walker.{Walker}
-use Rattle.chunk_index.specs.Entry.{entryLen, entriesOf}
+use Rattle.chunk_index.specs.Entry.{entryLen}
 use Rattle.chunk_index.specs.Index.{indexOf, builtFrom, buildOf}
 use Rattle.chunk_index.specs.declared.entry.ChunkIndexEntry.{ChunkIndexEntry}
-use Rattle.seek.specs.Seek.{seekQuestions, find, landed, soughtFrom, seekOf}
+use Rattle.seek.specs.Seek.{seekOf}
+use Rattle.seek.proofs.Sentences.{seek-sentences}
 use Rattle.muxer.proofs.Writes.{header-refused, packet-refused, trailer-refused}
 use Rattle.muxer.specs.declared.Writer.{Writer}
 use Rattle.page.specs.Page.{printOf}
@@ -60,14 +59,7 @@ read-refused w (read.refused q) h = ap asRead h
 
 seek-keeps : (table : List ℕ) (stream : ℕ) (request : ℤ) (w : Walker) (r : Refusal) → seekAnswer table stream request w ≡ refused r
     → seekWalker table stream request w ≡ w
-unfolding seekOf
-seek-keeps table stream request w r = go (seekQuestions table w stream) (find stream request (entriesOf table))
-  where
-    go : (q : Answer Unit) (f : Option Position) → given single (soughtFrom q w (landed (entriesOf table) w stream f) .answer) ≡ refused r
-        → soughtFrom q w (landed (entriesOf table) w stream f) .walker ≡ w
-    go (accepted u) none h = never h
-    go (accepted u) (some p) h = never h
-    go (refused q) f h = refl
+seek-keeps table stream request w r h = seek-sentences .gives-back table stream request w r (count-refused (seekOf table w stream request .answer) r h)
 
 -- a writing call
 asCheck : Answer (List ℕ) → Answer Unit

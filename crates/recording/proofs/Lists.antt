@@ -13,7 +13,7 @@ use lib.IntN.{ℤ}
 use lib.ListN.{length, take, drop, getElem?, length-append, drop-of-length-le}
 use Rattle.prelude.specs.Layout.{preludeLen}
 use Rattle.chunk.specs.Chunk.{trailerBytes}
-use Rattle.error.specs.Answer.{Answer, accepted, refused, numbered}
+use Rattle.error.specs.Answer.{accepted, refused, numbered}
 use Rattle.fields.specs.Le.{leBytes, Bytes}
 use Rattle.fields.proofs.Laws.{bytes-left, bytes-right}
 use Rattle.demuxer.specs.Packet.{Shown}
@@ -25,8 +25,9 @@ use Rattle.demuxer.proofs.Ranges.{in-range}
 use Rattle.walk.specs.Chunks.{Chunk, chunkOf, chunkBytes, chunksBytes}
 use Rattle.chunk_index.specs.Entry.{entryLen, tableBytes, entriesOf}
 use Rattle.chunk_index.specs.declared.entry.ChunkIndexEntry.{ChunkIndexEntry}
-use Rattle.table.specs.Table.{goodEntries}
-use Rattle.seek.specs.Seek.{seekQuestions, find, pastLast, landed, soughtFrom, seekOf}
+use Rattle.table.specs.Table.{goodEntries, tableQuestions}
+use Rattle.seek.specs.Seek.{find, pastLast, landed, seekOf}
+use Rattle.seek.proofs.Seeks.{no-stream, all-pass, when-refused, when-accepted}
 use Rattle.recording.specs.Grammar.{Finished}
 use Rattle.recording.specs.Drain.{drain}
 use Rattle.recording.specs.Machine.{Call, read, seek, MachineStep, onRead, onSeek, first, refuses, machineStep, machineSays, machineAfter}
@@ -218,8 +219,10 @@ module _ (file : List ℕ) (cs : List Chunk) (all : Bytes file) (fin : Finished 
     pub own-marks : entriesOf table ≡ marks start cs
     own-marks = ap entriesOf own-table ∙ index-fits
 
-    own-length : length table % entryLen ≡ 0
-    own-length = omega (arith, ap length own-table, length-table (marks start cs))
+    own-good : tableQuestions table ≡ accepted tt
+    own-good =
+        let whole : length table % entryLen ≡ 0 = omega (arith, ap length own-table, length-table (marks start cs)) in
+        rw (eq-eqb (length table % entryLen) 0 whole, own-marks, all-fine)
 
     -- ---- a seek
 
@@ -229,21 +232,15 @@ module _ (file : List ℕ) (cs : List Chunk) (all : Bytes file) (fin : Finished 
     abbrev pub seekStep : ℕ → ℤ → MachineStep
     seekStep stream request = onSeek (first stream request (drain cs)) (getElem? (drain cs) (first stream request (drain cs)))
 
-    seek-asks : (w : Walker) (stream : ℕ) → leb stream 1 ≡ true → InRange (w .position) → seekQuestions table w stream ≡ accepted tt
-    unfolding seekQuestions
-    seek-asks w stream s r = rw (eq-eqb (length table % entryLen) 0 own-length, s, own-marks, all-fine, in-range (w .position) r)
-
     seek-lands : (w : Walker) (stream : ℕ) (request : ℤ) → leb stream 1 ≡ true → InRange (w .position)
         → seekOf table w stream request ≡ landed (marks start cs) w stream (find stream request (marks start cs))
-    unfolding seekOf
     seek-lands w stream request s r =
-        ap (λ (a : Answer Unit). soughtFrom a w (landed (entriesOf table) w stream (find stream request (entriesOf table)))) (seek-asks w stream s r)
+        when-accepted table w stream request (all-pass table w stream s own-good (in-range (w .position) r))
         ∙ ap (λ (es : List ChunkIndexEntry). landed es w stream (find stream request es)) own-marks
 
     seek-refused : (w : Walker) (stream : ℕ) (request : ℤ) → leb stream 1 ≡ false
         → seekOf table w stream request ≡ record { answer = refused (numbered 42 0); walker = w }
-    unfolding seekOf seekQuestions
-    seek-refused w stream request s = rw (eq-eqb (length table % entryLen) 0 own-length, s)
+    seek-refused w stream request s = when-refused table w stream request (no-stream table w stream own-good s)
 
     land-turn : (w : Walker) (stream : ℕ) (request : ℤ) → leb stream 1 ≡ true → InRange (w .position) → Finds stream request start cs
         → Turn cs (seeking w stream request) (seekStep stream request)
