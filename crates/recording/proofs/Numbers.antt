@@ -2,7 +2,7 @@
 use mathlib.Core.Path.{_≡_, refl, ap, _∙_}
 use Prim.Native.Nat.{ℕ, _≤_}
 use mathlib.Core.Bool.{Bool, true, false}
-use mathlib.Core.List.{List, [], _∷_}
+use mathlib.Core.List.{List}
 use native.Mathlib.Omega.{arith}
 use lib.IntN.{ℤ}
 use Rattle.error.specs.Answer.{Answer, accepted, refused, ask, andThen}
@@ -33,10 +33,10 @@ pub then-numbered : {A B : Type 0} (a : Answer A) (rest : A → Answer B) → Nu
 then-numbered (accepted x) rest k h = h x
 then-numbered (refused r) rest k h = k
 
--- a list of numbers without 0
-listed : {A : Type 0} (numbers : List ℕ) → oneOf numbers 0 ≡ false → (a : Answer A) → RefusedBy numbers a → Numbered a
-listed numbers n (accepted x) h = tt
-listed numbers n (refused r) h = λ e. clash h (ap (oneOf numbers) e ∙ n)
+-- a list of numbers without 0; which list it is, the call's sentence says
+listed : {A : Type 0} (numbers : List ℕ) (a : Answer A) → RefusedBy numbers a → oneOf numbers 0 ≡ false → Numbered a
+listed numbers (accepted x) h n = tt
+listed numbers (refused r) h n = λ e. clash h (ap (oneOf numbers) e ∙ n)
 
 abbrev pub ReadNumbered : ReadAnswer → Type 0
 ReadNumbered (read.packet p) = Unit
@@ -49,18 +49,17 @@ as-read End n = tt
 as-read (read.refused r) n = n
 
 pub read-numbered : (file : List ℕ) (w : Walker) → ReadNumbered (readOf file w .answer)
-read-numbered file w = as-read (readOf file w .answer) (listed (10 ∷ 32 ∷ 31 ∷ []) refl (asAnswer (readOf file w .answer)) (read-sentences .numbers file w))
+read-numbered file w = as-read (readOf file w .answer) (listed _ (asAnswer (readOf file w .answer)) (read-sentences .numbers file w) refl)
 
 pub seek-numbered : (table : List ℕ) (w : Walker) (stream : ℕ) (request : ℤ) → Numbered (seekOf table w stream request .answer)
 seek-numbered table w stream request =
-    listed (41 ∷ 42 ∷ 43 ∷ 32 ∷ []) refl (seekOf table w stream request .answer) (seek-sentences .numbers table w stream request)
+    listed _ (seekOf table w stream request .answer) (seek-sentences .numbers table w stream request) refl
 
 pub step-numbered : (w : Writer) (buf : List ℕ) (c : WriteCall) → Numbered (writeStep w buf c .answer)
 unfolding writeStep
 step-numbered w buf header =
-    listed (50 ∷ 55 ∷ 56 ∷ 54 ∷ []) refl (headerCall w buf .answer) (write-sentences .header .numbered (record { writer = w; buffer = buf }))
+    listed _ (headerCall w buf .answer) (write-sentences .header .numbered (record { writer = w; buffer = buf })) refl
 step-numbered w buf (packet payload stream) =
-    listed (51 ∷ 55 ∷ 56 ∷ 52 ∷ 53 ∷ 54 ∷ []) refl (packetCall w payload stream buf .answer)
-    (write-sentences .packet payload stream .numbered (record { writer = w; buffer = buf }))
+    listed _ (packetCall w payload stream buf .answer) (write-sentences .packet payload stream .numbered (record { writer = w; buffer = buf })) refl
 step-numbered w buf trailer =
-    listed (51 ∷ 55 ∷ 56 ∷ 54 ∷ []) refl (trailerCall w buf .answer) (write-sentences .trailer .numbered (record { writer = w; buffer = buf }))
+    listed _ (trailerCall w buf .answer) (write-sentences .trailer .numbered (record { writer = w; buffer = buf })) refl
