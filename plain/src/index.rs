@@ -120,17 +120,15 @@ pub fn build_chunk_index(file: &[u8], table: &mut [u8]) -> Answer<u64> {
     Ok(count as u64)
 }
 
-/// The records of a table that a call is given. Asks 41; then what the call asks in between, whose answer it gives;
-/// then 43 of each record, from the first to the last, and calls `each` with the place and the record if that passes.
+/// The records of a table that a call is given. Asks 41, then 43 of each record, from the first to the last, and calls `each` with the place
+/// and the record if that passes.
 #[inline(always)]
 pub(crate) fn good_records(
     table: &[u8],
-    between: Answer<()>,
     mut each: impl FnMut(u64, Record),
 ) -> Answer<&[[u8; RECORD]]> {
     let (records, rest) = table.as_chunks();
     ask(rest.is_empty(), 41, 0)?;
-    between?;
     for (i, bytes) in records.iter().enumerate() {
         let (place, record) = ((RECORD * i) as u64, Record::read(bytes));
         ask(record.is_good(), 43, place)?;

@@ -14,7 +14,7 @@ const SAMPLES_LIMIT: u64 = 1_000_000_000_000_000_000;
 pub fn print_index(table: &[u8], page: &mut [u8]) -> Answer<u64> {
     // 43 is asked of the whole table before 70, so the place of a 70 waits for the end of the pass.
     let mut too_many = None;
-    let records = good_records(table, Ok(()), |place, record| {
+    let records = good_records(table, |place, record| {
         if record.samples >= SAMPLES_LIMIT {
             too_many.get_or_insert(place);
         }

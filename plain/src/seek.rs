@@ -4,7 +4,7 @@ use crate::index::good_records;
 use crate::{AUDIO, Answer, RECORD, Record, VIDEO, Walker, ask, stream_tag};
 
 /// Takes the walker to the first record of the stream that is stamped at or after the request, or to the end, and gives the stamp there.
-/// Refuses with 41, 42, 43 and 32.
+/// Refuses with 42, 41, 43 and 32.
 #[inline]
 pub fn seek_to_via_index(
     table: &[u8],
@@ -12,7 +12,8 @@ pub fn seek_to_via_index(
     stream: u32,
     request: i64,
 ) -> Answer<u64> {
-    let records = good_records(table, ask(stream <= 1, 42, 0), |_, _| {})?;
+    ask(stream <= 1, 42, 0)?;
+    let records = good_records(table, |_, _| {})?;
     walker.in_range()?;
     Ok(jump(records, walker, stream, request))
 }

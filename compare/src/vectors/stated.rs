@@ -487,9 +487,12 @@ fn indexes_and_jumps(cases: &mut Cases) {
             FRESH,
         );
     }
+    // 02: the stream is asked about first, so the table may be whatever it is.
     for stream in [2, 4_294_967_295] {
-        seek_to_via_index(cases, &index, FRESH, (stream, 0), refused(42, 0), FRESH);
-        seek_to_via_index(cases, &[], FRESH, (stream, 0), refused(42, 0), FRESH);
+        for length in [0, 1, 23, 25, 47, 48] {
+            let table = &index[..length];
+            seek_to_via_index(cases, table, FRESH, (stream, 0), refused(42, 0), FRESH);
+        }
     }
     for (first, second, place) in [
         ((b"00db", 0), (b"01wb", 0), 0),
@@ -502,13 +505,15 @@ fn indexes_and_jumps(cases: &mut Cases) {
         let index = index_of(first, second);
         seek_to_via_index(cases, &index, FRESH, (0, 0), refused(43, place), FRESH);
     }
-    // The order 1, 41, 42, 43, 32: what is asked later has the answer no as well.
+    // The order 1, 42, 41, 43, 32: what is asked later has the answer no as well.
     let bad = index_of((b"00dc", 0), (b"01wc", 0));
+    let ragged = &index_of((b"01wc", 0), (b"01wc", 0))[..47];
     let over = [316, OVER, 0, 0, 0, 0, NOT_MET];
     for (table, walker, stream, number, place) in [
-        (&bad[..47], [316, OVER, 0, 0, 2, 0, NOT_MET], 2, 1, 0),
-        (&bad[..47], over, 2, 41, 0),
+        (ragged, [316, OVER, 0, 0, 2, 0, NOT_MET], 2, 1, 0),
+        (ragged, over, 2, 42, 0),
         (&bad, over, 2, 42, 0),
+        (ragged, over, 1, 41, 0),
         (&bad, over, 1, 43, 24),
         (&index, over, 1, 32, 0),
     ] {

@@ -218,7 +218,7 @@ pub extern "C" fn amv_next_packet(file: &[u8], walker: &mut [u64; 7], out: &mut 
     }
 }
 
-// A jump by the index: the walker at the first chunk of the stream whose stamp is the request or later. Refuses with 1, 41, 42, 43 and 32.
+// A jump by the index: the walker at the first chunk of the stream whose stamp is the request or later. Refuses with 1, 42, 41, 43 and 32.
 #[no_mangle]
 pub extern "C" fn amv_seek_to_via_index(
     table: &[u8],

@@ -146,16 +146,13 @@ pub record Numbers : Type 0 where
   pub forty : buildOf E (zeroed 47) ≡ record { answer = no 40 0; table = zeroed 47 }
   pub forty-not : buildOf E (zeroed 48) .answer ≡ accepted 2
   pub forty-last : buildOf (then (zeroed 8)) [] .answer ≡ no 31 316
-  -- "whole 24s? 41. Stream 0 or 1? 42. Tags known and samples below 2^62? 43, place of the record's start."
+  -- "whole 24s? 41. Stream 0 or 1? 42. Tags known and samples below 2^62? 43, place of the record's start." (their order: cases/Orders)
   pub forty-one : seeks (0 ∷ []) fresh 0 ≡ no 41 0
-  pub forty-one-first : seeks (0 ∷ []) fresh 2 ≡ no 41 0
   pub forty-two : seeks [] fresh 2 ≡ no 42 0
-  pub forty-two-first : seeks (zeroed 24) fresh 2 ≡ no 42 0
   pub forty-three : seeks (zeroed 24) fresh 0 ≡ no 43 0
   pub forty-three-samples : seeks (recordOf videoTag (2 ^ 62)) fresh 0 ≡ no 43 0
   pub forty-three-not : seeks (recordOf audioTag (2 ^ 62 - 1)) fresh 1 ≡ accepted (2 ^ 62 - 1)
   pub forty-three-second : seeks (recordOf videoTag 0 ++ zeroed 24) fresh 0 ≡ no 43 24
-  pub forty-three-first : seeks (zeroed 24) (walkerAt (2 ^ 62 + 1) 0 0 0) 0 ≡ no 43 0
   -- "Header: not begun? 50. Packet and trailer: begun? 51."
   pub fifty : heads (writerAt true false 316) [] ≡ no 50 316
   pub fifty-one-packet : packs (writerAt false false 5) [] 0 [] ≡ no 51 5

@@ -4,6 +4,7 @@ use mathlib.Core.Bool.{Bool, true, false, _&&_}
 use mathlib.Core.List.{List, [], _∷_, _++_}
 use Prim.Native.Nat.{ℕ, _+_, _^_}
 use lib.Dec.{eqb}
+use lib.IntN.{pos}
 use lib.ListN.{length, take}
 use Rattle.error.specs.Answer.{Answer, accepted, numbered, numberOf, placeOf}
 use Rattle.fields.specs.Le.{put}
@@ -13,11 +14,18 @@ use Rattle.chunk.specs.Interleave.{interleave}
 use Rattle.parse.specs.Preamble.{preambleOf}
 use Rattle.prelude.specs.Prelude.{parseOf, strictOf}
 use Rattle.prelude.specs.declared.prelude.AmvPrelude.{AmvPrelude}
+use Rattle.demuxer.specs.Position.{InRange}
+use Rattle.demuxer.specs.Read.{fresh}
 use Rattle.demuxer.specs.Read as read
 use Rattle.demuxer.specs.declared.walker.Trailer.the-variants.{NotMet}
+use Rattle.demuxer.specs.declared.walker.Walker.{Walker}
+use Rattle.chunk_index.specs.Entry.{entriesOf}
+use Rattle.table.specs.Table.{goodEntry}
+use Rattle.table.specs.Sentences.{FirstNo, Good}
+use Rattle.seek.specs.StreamFirst.{seekBefore, BothWrong}
 use Rattle.finished.specs.Check.{checkOf}
-use Rattle.cases.specs.Cases.{position}
-use Rattle.cases.specs.Numbers.{no, P, then, zeroed, reads, writerAt, heads, packs, ends}
+use Rattle.cases.specs.Cases.{position, ownIndex}
+use Rattle.cases.specs.Numbers.{no, P, then, zeroed, walkerAt, reads, seeks, recordOf, writerAt, heads, packs, ends}
 
 -- a byte of the prelude made wrong, and the question that says no to it
 pub record Spoilt : Type 0 where
@@ -61,6 +69,10 @@ unfoldable pub eachCut : List ℕ → Bool
 eachCut [] = true
 eachCut (p ∷ ps) = eqb (numberOf (parseOf (take (p + 3) P))) 11 && eqb (placeOf (parseOf (take (p + 3) P))) p && eachCut ps
 
+-- a walker that is out of range
+abbrev pub farther : Walker
+farther = walkerAt (2 ^ 62 + 1) 0 0 0
+
 pub record Orders : Type 0 where
   pub parsed : eachFirst parseOf items ≡ true
   pub strict : eachFirst strictOf (items ++ sentinels) ≡ true
@@ -72,6 +84,23 @@ pub record Orders : Type 0 where
   -- a read: 32 before "Ended"; the check: 10 to 24 before the chunks
   pub ended-late : reads [] (record { position = position (2 ^ 62 + 1) 0 0 0; end = true; cut = false; trailer = NotMet }) ≡ read.refused (numbered 32 0)
   pub check-prelude : checkOf (put (then (zeroed 8)) 76 (0 ∷ [])) ≡ no 16 76
+  -- a seek, by 02 (M-104): 42, then 41, then 43, then 32
+  pub stream-first : seeks (zeroed 25) farther 2 ≡ no 42 0
+  pub length-second : seeks (zeroed 25) farther 1 ≡ no 41 0
+  pub records-third : seeks (zeroed 24) farther 1 ≡ no 43 0
+  pub walker-last : seeks ownIndex farther 1 ≡ no 32 0
+  -- "from 41 to 42", where a byte is the table: the smallest input of what changed, with its answers by 01 and by 02
+  pub stream-before : seekBefore (0 ∷ []) fresh 2 (pos 0) .answer ≡ no 41 0
+  pub stream-now : seeks (0 ∷ []) fresh 2 ≡ no 42 0
+  -- the conditions of seek/StreamFirst: of both wrong, and of either one alone
+  pub both-wrong : BothWrong (0 ∷ []) 2
+  pub stream-alone : BothWrong [] 2 → ⊥
+  pub table-alone : BothWrong (0 ∷ []) 1 → ⊥
+  -- and those of seek/Sentences: a table whose first bad record is its second, and one without; a walker in range, and one out of it
+  pub second-bad : FirstNo goodEntry (entriesOf (recordOf videoTag 0 ++ zeroed 24)) 24
+  pub none-bad : Good ownIndex
+  pub fresh-near : InRange (fresh .position)
+  pub farther-not : InRange (farther .position) → ⊥
   -- the writer: 50 and 51, then 55, then 56, then 52, 53, 54
   pub fifty-first : heads (writerAt true true 5) [] ≡ no 50 5
   pub fifty-one-packet : packs (writerAt false true 5) [] 2 [] ≡ no 51 5

@@ -240,7 +240,7 @@ module _ (file : List ℕ) (cs : List Chunk) (all : Bytes file) (fin : Finished 
 
     seek-refused : (w : Walker) (stream : ℕ) (request : ℤ) → leb stream 1 ≡ false
         → seekOf table w stream request ≡ record { answer = refused (numbered 42 0); walker = w }
-    seek-refused w stream request s = when-refused table w stream request (no-stream table w stream own-good s)
+    seek-refused w stream request s = when-refused table w stream request (no-stream table w stream s)
 
     land-turn : (w : Walker) (stream : ℕ) (request : ℤ) → leb stream 1 ≡ true → InRange (w .position) → Finds stream request start cs
         → Turn cs (seeking w stream request) (seekStep stream request)

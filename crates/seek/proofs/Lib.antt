@@ -1,3 +1,4 @@
 pub mod Records
 pub mod Seeks
 pub mod Sentences
+pub mod StreamFirst

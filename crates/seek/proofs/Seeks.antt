@@ -12,13 +12,12 @@ use Rattle.error.specs.declared.AmvError.{AmvError}
 use Rattle.error.specs.declared.AmvResult.{AmvResult}
 use Rattle.error.specs.declared.AmvResult.the-variants.{Ok, Err}
 use Rattle.error.specs.declared.Refusal.{Refusal}
-use Rattle.error.proofs.Answers.{then-passed}
 use Rattle.chunk_index.specs.Entry.{entriesOf}
 use Rattle.chunk_index.specs.declared.entry.ChunkIndexEntry.{ChunkIndexEntry}
 use Rattle.demuxer.specs.Position.{inRange}
 use Rattle.demuxer.specs.declared.position.Position.{Position}
 use Rattle.demuxer.specs.declared.walker.Walker.{Walker}
-use Rattle.table.specs.Table.{wholeRecords, goodEntries, tableQuestions}
+use Rattle.table.specs.Table.{tableQuestions}
 use Rattle.seek.specs.Seek.{seekQuestions, find, pastLast, movedTo, landed, seekOf}
 use Rattle.seek.specs.Steps.{least, foundOf}
 use Rattle.seek.specs.declared.Found.{Found}
@@ -32,20 +31,26 @@ module _ (es : List ChunkIndexEntry) (w : Walker) (stream : ℕ) {f : Found} whe
   pub land-nowhere : {p : Position} → f ≡ Nowhere → p ≡ pastLast (w .position) es → landed es w stream (foundOf f) ≡ movedTo w stream p true
   land-nowhere e q = ap (λ (g : Found). landed es w stream (foundOf g)) e ∙ ap (λ (p : Position). movedTo w stream p true) (sym q)
 
--- ---- the questions
+-- ---- the questions, by the answers to them: first the stream's, then the table's, then the walker's
 
 module _ (table : List ℕ) (w : Walker) (stream : ℕ) where
-  pub no-stream : tableQuestions table ≡ accepted tt → leb stream 1 ≡ false → seekQuestions table w stream ≡ refused (numbered 42 0)
+  pub no-stream : leb stream 1 ≡ false → seekQuestions table w stream ≡ refused (numbered 42 0)
   unfolding seekQuestions
-  no-stream g s =
-      let p = then-passed (wholeRecords table) (λ _. goodEntries (entriesOf table)) g in
-      rw (p .0, s)
+  no-stream s = rw s
 
-  pub all-pass : leb stream 1 ≡ true → tableQuestions table ≡ accepted tt → inRange (w .position) ≡ true → seekQuestions table w stream ≡ accepted tt
-  unfolding seekQuestions
-  all-pass s g r =
-      let p = then-passed (wholeRecords table) (λ _. goodEntries (entriesOf table)) g in
-      rw (p .0, s, p .1, r)
+  module _ (s : leb stream 1 ≡ true) where
+    pub bad-table : {r : Refusal} → tableQuestions table ≡ refused r → seekQuestions table w stream ≡ refused r
+    unfolding seekQuestions
+    bad-table g = rw (s, g)
+
+    module _ (g : tableQuestions table ≡ accepted tt) where
+      pub out-of-range : inRange (w .position) ≡ false → seekQuestions table w stream ≡ refused (numbered 32 0)
+      unfolding seekQuestions
+      out-of-range r = rw (s, g, r)
+
+      pub all-pass : inRange (w .position) ≡ true → seekQuestions table w stream ≡ accepted tt
+      unfolding seekQuestions
+      all-pass r = rw (s, g, r)
 
 -- ---- the call
 

@@ -1,30 +1,34 @@
--- 01's sentences about the indexed seek hold. A seek is refused, goes to a record or to the end; what the search found goes by induction over
--- the records. Assumes nothing.
+-- The sentences about the indexed seek hold. A seek is refused, goes to a record or to the end; what the search found goes by induction over
+-- the records. Which question is told goes by the laws of the questions. Assumes nothing.
 use mathlib.Core.Path.{_≡_, refl, sym, ap, _∙_, subst}
 use mathlib.Core.Bool.{Bool, true, false, cond}
 use mathlib.Core.List.{List, [], _∷_, _++_}
 use mathlib.Core.Option.{Option, none, some}
-use Prim.Native.Nat.{ℕ}
-use borrow.Author.Tests.{eq-eqb, eqb-true}
+use Prim.Native.Nat.{ℕ, _%_, _≤_, _<_}
+use borrow.Author.Tests.{eq-eqb, eqb-true, le-leb, lt-leb}
 use lib.Dec.{eqb, leb}
 use lib.IntN.{ℤ, pos}
+use lib.ListN.{length}
 use lib.Signed.{leZ}
 use Rattle.fields.proofs.Impossible.{impossible}
 use Rattle.chunk.specs.Chunk.{streamTag}
-use Rattle.error.specs.Answer.{Answer, accepted, refused, ask, andThen}
+use Rattle.error.specs.Answer.{Answer, accepted, refused, numbered, ask}
 use Rattle.error.specs.Sentences.{RefusedBy}
 use Rattle.error.specs.declared.Refusal.{Refusal}
 use Rattle.error.proofs.Answers.{never, clash, accepted-same, both}
 use Rattle.error.proofs.Sentences.{asked-by, then-by}
 use Rattle.chunk_index.specs.Entry.{entriesOf}
 use Rattle.chunk_index.specs.declared.entry.ChunkIndexEntry.{ChunkIndexEntry}
-use Rattle.demuxer.specs.Position.{inRange}
+use Rattle.demuxer.specs.Position.{inRange, InRange}
+use Rattle.demuxer.proofs.Ranges.{in-range, range-facts}
 use Rattle.demuxer.specs.declared.position.Position.{Position}
 use Rattle.demuxer.specs.declared.walker.Walker.{Walker}
-use Rattle.table.specs.Table.{wholeRecords, goodEntry, goodEntries}
-use Rattle.table.proofs.Sentences.{whole-by, each-by}
+use Rattle.table.specs.Table.{goodEntry, tableQuestions}
+use Rattle.table.specs.Sentences.{FirstNo, Good}
+use Rattle.table.proofs.Sentences.{table-by, good-back, ragged, bad-record}
 use Rattle.seek.specs.Seek.{stampOf, seekQuestions, reaches, find, beyond, pastLast, Seeking, movedTo, landed, soughtFrom, seekOf}
 use Rattle.seek.specs.Sentences.{Reaches, NoneReaches, GoneTo, Past, SeekSentences}
+use Rattle.seek.proofs.Seeks.{no-stream, bad-table, out-of-range, all-pass, when-refused, when-accepted}
 
 -- ---- the search
 
@@ -163,19 +167,51 @@ module _ (table : List ℕ) (w : Walker) (stream : ℕ) (request : ℤ) where
       (λ p f i. let z : _≡_ {A = Option Position} none (some p) = sym (ap (find stream request) i) ∙ f in impossible cc)
       (λ f i. ap (pastLast (w .position)) i)
 
+-- ---- which question is told
+
+not-so : (b : Bool) → (b ≡ true → ⊥) → b ≡ false
+not-so true n = absurd (n refl)
+not-so false n = refl
+
+module _ (table : List ℕ) (w : Walker) (stream : ℕ) (request : ℤ) where
+  told : {r : Refusal} → seekQuestions table w stream ≡ refused r → seekOf table w stream request .answer ≡ refused r
+  told q = ap (λ (s : Seeking). s .answer) (when-refused table w stream request q)
+
+  forty-two : 1 < stream → seekOf table w stream request .answer ≡ refused (numbered 42 0)
+  forty-two h = told (no-stream table w stream (lt-leb stream 1 h))
+
+  module _ (known : stream ≤ 1) where
+    forty-one : (length table % 24 ≡ 0 → ⊥) → seekOf table w stream request .answer ≡ refused (numbered 41 0)
+    forty-one n = told (bad-table table w stream (le-leb stream 1 known) (ragged table n))
+
+    forty-three : (at : ℕ) → length table % 24 ≡ 0 → FirstNo goodEntry (entriesOf table) at
+        → seekOf table w stream request .answer ≡ refused (numbered 43 at)
+    forty-three at h f = told (bad-table table w stream (le-leb stream 1 known) (bad-record table h f))
+
+    thirty-two : Good table → (InRange (w .position) → ⊥) → seekOf table w stream request .answer ≡ refused (numbered 32 0)
+    thirty-two g n =
+        told
+        (out-of-range table w stream (le-leb stream 1 known) (good-back table g)
+        (not-so (inRange (w .position)) (λ r. n (range-facts (w .position) r))))
+
+    accepts : Good table → InRange (w .position) → (stamp : ℕ) × (seekOf table w stream request .answer ≡ accepted stamp)
+    accepts g r =
+        rw (when-accepted table w stream request (all-pass table w stream (le-leb stream 1 known) (good-back table g) (in-range (w .position) r)))
+        (landed-answers (find stream request (entriesOf table)))
+      where
+        landed-answers : (f : Option Position) → (stamp : ℕ) × (landed (entriesOf table) w stream f .answer ≡ accepted stamp)
+        landed-answers none = (_, refl)
+        landed-answers (some p) = (_, refl)
+
 -- ---- the numbers
 
-asked : (table : List ℕ) (w : Walker) (stream : ℕ) → RefusedBy (41 ∷ 42 ∷ 43 ∷ 32 ∷ []) (seekQuestions table w stream)
+asked : (table : List ℕ) (w : Walker) (stream : ℕ) → RefusedBy (42 ∷ 41 ∷ 43 ∷ 32 ∷ []) (seekQuestions table w stream)
 unfolding seekQuestions
 asked table w stream =
-    let ns : List ℕ = 41 ∷ 42 ∷ 43 ∷ 32 ∷ [] in
+    let ns : List ℕ = 42 ∷ 41 ∷ 43 ∷ 32 ∷ [] in
     let last : Unit → Answer Unit = λ _. ask (inRange (w .position)) 32 0 (accepted tt) in
-    let rest : Answer Unit = andThen (goodEntries (entriesOf table)) last in
-    then-by ns (wholeRecords table) (λ _. ask (leb stream 1) 42 0 rest) (whole-by ns refl table)
-    (λ u.
-    asked-by ns (leb stream 1) 42 0 rest refl
-    (then-by ns (goodEntries (entriesOf table)) last (each-by ns goodEntry 43 refl 0 (entriesOf table))
-    (λ u. asked-by ns (inRange (w .position)) 32 0 (accepted tt) refl tt)))
+    asked-by ns (leb stream 1) 42 0 _ refl
+    (then-by ns (tableQuestions table) last (table-by ns refl refl table) (λ u. asked-by ns (inRange (w .position)) 32 0 (accepted tt) refl tt))
 
 pub seek-sentences : SeekSentences
 seek-sentences =
@@ -190,13 +226,18 @@ seek-sentences =
       trailer-stays =
           λ table w stream request.
           seek-cases table w stream request (λ (q : Seeking). q .walker .trailer ≡ w .trailer) (λ r e. refl) (λ p e. refl) (λ e. refl);
+      forty-two = forty-two;
+      forty-one = forty-one;
+      forty-three = λ table w stream request at k. forty-three table w stream request k at;
+      thirty-two = thirty-two;
+      accepts = accepts;
       gives-back =
           λ table stream request w r.
           seek-cases table w stream request (λ (q : Seeking). q .answer ≡ refused r → q .walker ≡ w) (λ r e a. refl) (λ p e a. never a) (λ e a. never a);
       numbers =
           λ table w stream request.
-          seek-cases table w stream request (λ (q : Seeking). RefusedBy (41 ∷ 42 ∷ 43 ∷ 32 ∷ []) (q .answer))
-          (λ r e. subst (RefusedBy (41 ∷ 42 ∷ 43 ∷ 32 ∷ [])) e (asked table w stream))
+          seek-cases table w stream request (λ (q : Seeking). RefusedBy (42 ∷ 41 ∷ 43 ∷ 32 ∷ []) (q .answer))
+          (λ r e. subst (RefusedBy (42 ∷ 41 ∷ 43 ∷ 32 ∷ [])) e (asked table w stream))
           (λ p e. tt)
           (λ e. tt);
     }

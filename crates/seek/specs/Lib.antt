@@ -2,3 +2,4 @@
 pub mod Seek
 pub mod Steps
 pub mod Sentences
+pub mod StreamFirst

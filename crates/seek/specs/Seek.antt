@@ -14,7 +14,7 @@ use Rattle.demuxer.specs.declared.position.Position.{Position}
 use Rattle.demuxer.specs.declared.walker.Walker.{Walker}
 use Rattle.error.specs.Answer.{Answer, accepted, refused, ask, andThen}
 use Rattle.error.specs.Refusal.{refusalOf}
-use Rattle.table.specs.Table.{wholeRecords, goodEntries}
+use Rattle.table.specs.Table.{tableQuestions}
 use Rattle.seek.specs.declared.SeekResult.{SeekResult}
 use Rattle.seek.specs.declared.SeekResult.the-variants.{Ok, Err}
 use Rattle.seek.specs.declared.SeekOutcome.{SeekOutcome}
@@ -23,13 +23,10 @@ use Rattle.seek.specs.declared.SeekOutcome.{SeekOutcome}
 abbrev pub stampOf : ℕ → Position → ℕ
 stampOf stream p = cond (eqb stream 0) (p .frames .0) (p .samples .0)
 
--- the questions of the seek, in their order: 41, 42, 43 record by record, 32
+-- the questions of the seek. 02, M-104: "The stream question moves ahead": 42, then 01's others in their order: 41, 43 record by record, 32
 unfoldable pub seekQuestions : List ℕ → Walker → ℕ → Answer Unit
 seekQuestions table w stream =
-    andThen (wholeRecords table)
-    (λ _.
-    ask (leb stream 1) 42 0
-    (andThen (goodEntries (entriesOf table)) (λ _. ask (inRange (w .position)) 32 0 (accepted tt))))
+    ask (leb stream 1) 42 0 (andThen (tableQuestions table) (λ _. ask (inRange (w .position)) 32 0 (accepted tt)))
 
 -- "The first record of the stream whose stamp reaches the signed request"
 abbrev pub reaches : ℕ → ℤ → ChunkIndexEntry → Bool

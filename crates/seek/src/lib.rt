@@ -7,8 +7,7 @@ use demuxer::walker::Walker;
 use error::AmvError;
 use error::AmvResult;
 use table::TableResult;
-use table::good_entries;
-use table::whole_records;
+use table::ask_table;
 ghost use mathlib.Core.Path.{_≡_};
 ghost use mathlib.Core.Bool.{cond};
 ghost use Prim.Native.Nat.{_+_, _≤_};
@@ -40,17 +39,14 @@ enum Found {
     Nowhere,
 }
 
-// The questions of a seek.
+// The questions of a seek. The stream's comes before the table's, so a stream that does not exist is told whatever the table is.
 fn ask_seek(walker: Walker, table: &[u8], stream: u32) -> AmvResult
     ensures { λ r. ⌜ said r ≡ seekQuestions (now (table .entry)) walker stream ⌝ }
 {
-    if let AmvResult::Err(e) = whole_records(table) {
-        return AmvResult::Err(e);
-    }
     if 1 < stream {
         return AmvResult::Err(AmvError::NoSuchStream);
     }
-    match good_entries(table) {
+    match ask_table(table) {
         TableResult::Err(e) => AmvResult::Err(e),
         TableResult::Ok(_) => {
             let position = walker.position;
@@ -181,8 +177,8 @@ fn land(walker: Walker, table: &[u8], stream: u32, found: Found) -> SeekOutcome
 }
 
 // Moves a walker to the first record of a stream whose stamp reaches a request, or past the last record with the end mark, without walking the
-// file. Refused in this order, with the walker as it was: a table that is no whole number of records with 41, a stream that is not 0 or 1 with
-// 42, a record of another tag or too many samples with 43 at its start, a position out of range with 32.
+// file. Refused in this order, with the walker as it was: a stream that is not 0 or 1 with 42, a table that is no whole number of records with
+// 41, a record of another tag or too many samples with 43 at its start, a position out of range with 32.
 pub fn seek_to_via_index(walker: Walker, table: &[u8], stream: u32, request: i64) -> SeekOutcome
     ensures { λ r. ⌜ saidSeekOutcome r ≡ seekOf (now (table .entry)) walker stream request ⌝ }
 {

@@ -116,21 +116,6 @@ asked : Answer ℕ → Answer Unit
 asked (accepted n) = accepted tt
 asked (refused r) = refused r
 
-asked-back : (x : Answer Unit) (most : ℕ) → asked (andThen x (λ _. accepted most)) ≡ x
-unfolding asked
-asked-back (accepted u) most = refl
-asked-back (refused r) most = refl
-
-module _ (es : List ChunkIndexEntry) {r : TableResult} (s : saidTable r ≡ passOver 0 0 es) where
-  pub pass-ok : {n : ℕ} → r ≡ Ok n → goodEntries es ≡ accepted tt
-  unfolding asked
-  pass-ok e = sym (asked-back (goodEntries es) (mostSamples 0 es)) ∙ ap asked (sym s ∙ ap saidTable e)
-
-  pub pass-err : {e : AmvError} → r ≡ Err e → goodEntries es ≡ refused (refusalOf e)
-  unfolding asked
-  pass-err e = sym (asked-back (goodEntries es) (mostSamples 0 es)) ∙ ap asked (sym s ∙ ap saidTable e)
-
--- and the pass after the question of the length
 module _ (table : List ℕ) {r : TableResult} (s : saidTable r ≡ andThen (wholeRecords table) (λ _. passOver 0 0 (entriesOf table))) where
   pub table-ok : {n : ℕ} → r ≡ Ok n → (tableQuestions table ≡ accepted tt) × (n ≡ mostSamples 0 (entriesOf table))
   table-ok e =

@@ -18,7 +18,7 @@ use Rattle.table.specs.Table.{askEach, wholeRecords, goodEntry, goodEntr
 use Rattle.table.specs.Sentences.{AllPass, FirstNo, Good, EachSentences}
 
 module _ (numbers : List ℕ) where
-  pub whole-by : oneOf numbers 41 ≡ true → (table : List ℕ) → RefusedBy numbers (wholeRecords table)
+  whole-by : oneOf numbers 41 ≡ true → (table : List ℕ) → RefusedBy numbers (wholeRecords table)
   whole-by n table = asked-by numbers (eqb (length table % entryLen) 0) 41 0 (accepted tt) n tt
 
   pub each-by : (test : ChunkIndexEntry → Bool) (number : ℕ) → oneOf numbers number ≡ true → (place : ℕ) (es : List ChunkIndexEntry)

@@ -17,7 +17,7 @@ pub enum TableResult {
 }
 
 // Refuses with 41 a table that is no whole number of records.
-pub fn whole_records(table: &[u8]) -> AmvResult
+fn whole_records(table: &[u8]) -> AmvResult
     ensures { λ r. ⌜ said r ≡ wholeRecords (now (table .entry)) ⌝ }
 {
     if table.len() % ChunkIndexEntry::LEN != 0 {
@@ -49,7 +49,7 @@ fn larger(a: u64, b: u64) -> u64
 
 // Refuses with 43 the first record of another tag or too many samples, at its start. The one pass answers the most samples too: a caller
 // with a limit below 2^62 then need not pass over the table again.
-pub fn good_entries(table: &[u8]) -> TableResult
+fn good_entries(table: &[u8]) -> TableResult
     ensures { λ r. ⌜ saidTable r ≡ passOver 0 0 (entriesOf (now (table .entry))) ⌝ }
 {
     let mut at: usize = 0;
@@ -68,7 +68,7 @@ pub fn good_entries(table: &[u8]) -> TableResult
     TableResult::Ok(most)
 }
 
-// Refuses with 41, then with 43, as whole_records and good_entries do.
+// Refuses a table with 41, then with 43, as whole_records and good_entries do, and answers the most samples of a record.
 pub fn ask_table(table: &[u8]) -> TableResult
     ensures { λ r. ⌜ saidTable r ≡ andThen (wholeRecords (now (table .entry))) (λ _. passOver 0 0 (entriesOf (now (table .entry)))) ⌝ }
 {
