@@ -33,9 +33,9 @@ extern "C" {
 /* The version of this header and its library: a change of what a call answers, of a state's words or of a record's bytes moves the second
  * number while the first is 0, and an addition the third. */
 #define AMV_VERSION_MAJOR 0
-#define AMV_VERSION_MINOR 2
+#define AMV_VERSION_MINOR 3
 #define AMV_VERSION_PATCH 0
-#define AMV_VERSION "0.2.0"
+#define AMV_VERSION "0.3.0"
 
 /* A file's longest length in bytes; the bytes of a prelude, at whose end the first chunk stands. */
 #define AMV_FILE_LIMIT 4294967295
@@ -154,7 +154,8 @@ uint32_t amv_build_chunk_index(const uint8_t *file, size_t len, uint8_t *table, 
 /* A jump: the walker goes to the first chunk of the stream whose stamp is the request or later, and its counts are those of that chunk, so
  * sound and clock belong to the picture. Where there is none, the walker stands at the end: its end is 1. Cut and trailer stay as they
  * are. The table is the records of amv_build_chunk_index and nothing after them: table_len is AMV_ENTRY_LEN times their number. out: place,
- * the stream's stamp where the walker stands. Refuses with 1, 41, 42, 43 and 32. */
+ * the stream's stamp where the walker stands. Refuses with 1, 42, 41, 43 and 32, in this order: a stream that does not exist is told whatever
+ * the table is. */
 enum { AMV_SEEK_STAMP = 1, AMV_SEEK_WORDS };
 uint32_t amv_seek_to_via_index(const uint8_t *table, size_t table_len, uint64_t walker[AMV_WALKER_WORDS], uint32_t stream, int64_t request, uint64_t out[AMV_SEEK_WORDS]);
 

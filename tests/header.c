@@ -157,6 +157,19 @@ static void index_and_jump(void)
     EXPECT(5, get(last + AMV_ENTRY_SAMPLES, 8));
     EXPECT(AMV_OK, amv_seek_to_via_index(table, sizeof table, walker, AMV_STREAM_AUDIO, 1, sought));
     EXPECT(5, sought[AMV_SEEK_STAMP]);
+    /* What is asked of a jump, in its order: each call answers the question before with yes, and this one and those after it with no. */
+    uint8_t bad[sizeof table];
+    memcpy(bad, table, sizeof bad);
+    bad[AMV_ENTRY_LEN + AMV_ENTRY_TAG] = 'X';
+    walker[AMV_WALKER_BLOCKS] = UINT64_MAX;
+    walker[AMV_WALKER_END] = 2;
+    EXPECT(AMV_ERROR_ILLEGAL_STATE, amv_seek_to_via_index(bad, sizeof bad - 1, walker, 2, 0, sought));
+    walker[AMV_WALKER_END] = 0;
+    EXPECT(AMV_ERROR_NO_SUCH_STREAM, amv_seek_to_via_index(bad, sizeof bad - 1, walker, 2, 0, sought));
+    EXPECT(AMV_ERROR_TABLE_RAGGED, amv_seek_to_via_index(bad, sizeof bad - 1, walker, AMV_STREAM_AUDIO, 0, sought));
+    EXPECT(AMV_ERROR_BAD_RECORD, amv_seek_to_via_index(bad, sizeof bad, walker, AMV_STREAM_AUDIO, 0, sought));
+    EXPECT(AMV_ENTRY_LEN, sought[AMV_PLACE]);
+    EXPECT(AMV_ERROR_STATE_OUT_OF_RANGE, amv_seek_to_via_index(table, sizeof table, walker, AMV_STREAM_AUDIO, 0, sought));
     EXPECT(AMV_OK, amv_summary(file, len, counts));
     EXPECT(1, counts[AMV_SUMMARY_FRAMES]);
     EXPECT(2, counts[AMV_SUMMARY_BLOCKS]);

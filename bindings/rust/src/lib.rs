@@ -424,7 +424,7 @@ impl<'a> AmvDemuxer<'a> {
         sought
     }
 
-    /// The same over an index that is given. Refuses with 41, 42, 43 and 32.
+    /// The same over an index that is given. Refuses with 42, 41, 43 and 32, in this order.
     pub fn seek_to_via_index(
         &mut self,
         index: &ChunkIndex,

@@ -21,7 +21,7 @@ unsafe extern "C" {
         table_len: usize,
         out: *mut [u64; 2],
     ) -> u32;
-    /// The walker at the first chunk of a stream at or after a request, or at the end. Refuses with 1, 41, 42, 43 and 32.
+    /// The walker at the first chunk of a stream at or after a request, or at the end. Refuses with 1, 42, 41, 43 and 32.
     pub fn amv_seek_to_via_index(
         table: *const u8,
         table_len: usize,

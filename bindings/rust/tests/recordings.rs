@@ -499,14 +499,20 @@ fn the_other_calls() {
         ]
     );
     let mut demuxer = AmvDemuxer::open(&file).unwrap();
-    let ragged = ChunkIndex::from_records(index.records()[..25].to_vec());
-    assert_eq!(
-        demuxer.seek_to_via_index(&ragged, 0, 0),
-        Err(AmvError {
-            number: 41,
-            place: 0
-        })
-    );
+    // A ragged table, and one with a record of no kind: a stream that does not exist is told before either.
+    let bad = [index.records(), &[0; 24]].concat();
+    let ragged = [&bad[..], &[0]].concat();
+    for (records, stream, number, place) in [
+        (&ragged, 0, AmvError::TABLE_RAGGED, 0),
+        (&ragged, 2, AmvError::NO_SUCH_STREAM, 0),
+        (&bad, 1, AmvError::BAD_RECORD, 48),
+        (&bad, u32::MAX, AmvError::NO_SUCH_STREAM, 0),
+    ] {
+        let refused = AmvError { number, place };
+        let index = ChunkIndex::from_records(records.clone());
+        assert_eq!(demuxer.seek_to_via_index(&index, stream, 0), Err(refused));
+        assert_eq!(demuxer.cursor(), 316);
+    }
     assert_eq!(demuxer.seek_to_via_index(&index, 1, 1), Ok(0));
     assert_eq!(
         (
