@@ -1,6 +1,6 @@
 //! One comparison of one call: the plain implementation, the library, and the original under the rules.
 
-use plain::words::{WalkerWords, WriterWords, walker_of, writer_of};
+use plain::words::{WalkerWords, WriterWords, walker_of, walker_words, writer_of};
 use plain::{AUDIO, Record, Refusal, TRAILER, VIDEO, Walker};
 
 use crate::grammar;
@@ -9,6 +9,7 @@ use crate::original::{self, Told};
 use crate::pages;
 use crate::rules::{self, Expected};
 use crate::said::{Said, Write, accepted, refused};
+use crate::seeks;
 use crate::sounds;
 use crate::tally::{Tally, hex};
 
@@ -276,26 +277,30 @@ pub fn seek_to_via_index(
         .and(walker_of(&given).ok())
         .map(|state| told_seek(table, state, stream, request));
     let left_same = library_walker == *walker;
-    let same = (plain == library) & left_same & original_agrees(tally, &expected, &told);
+    let stands = seeks::stands(tally, table, &given, stream, library);
+    let same = (plain == library) & left_same & stands & original_agrees(tally, &expected, &told);
     tally.judge("seek_to_via_index", same, || {
         format!(
-            "stream {stream} request {request} walker {given:?} table {}: plain {plain:?} {walker:?}, library {library:?} {library_walker:?}, original {told:?}",
+            "stream {stream} request {request} walker {given:?} table {}: plain {plain:?} {walker:?}, library {library:?} {library_walker:?}, stands {stands}, original {told:?}",
             hex(table)
         )
     });
 }
 
-/// The public seek of the original on the same records.
+/// The public seek of the original on the same records. It asks about the stream before it looks at them: where it refuses the stream, the
+/// library does, whatever the table is.
 pub fn seek_to(tally: &mut Tally, table: &[u8], given: Walker, stream: u32, request: i64) {
     let private = told_seek(table, given, stream, request);
     let expected = rules::seek_to(stream, request, given, private);
     let mut state = given;
     let told = original::seek_to(&original::read_table(table), &mut state, stream, request);
+    let library = LIBRARY.seek_to_via_index(table, &mut walker_words(&given), stream, request);
+    let stream_same = told != Told::Number(42) || library == refused(42, 0);
     let told = Some((told, state));
-    let same = original_agrees(tally, &expected, &told);
+    let same = original_agrees(tally, &expected, &told) & stream_same;
     tally.judge("seek_to (original)", same, || {
         format!(
-            "stream {stream} request {request} walker {given:?} table {}: {told:?}",
+            "stream {stream} request {request} walker {given:?} table {}: {told:?}, library {library:?}",
             hex(table)
         )
     });

@@ -22,6 +22,7 @@ mod programs;
 mod random;
 mod rules;
 mod said;
+mod seeks;
 mod sounds;
 mod suites;
 mod tally;

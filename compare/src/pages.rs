@@ -9,6 +9,7 @@ use crate::grammar;
 use crate::interface::LIBRARY;
 use crate::random::Random;
 use crate::said::{Said, accepted, refused};
+use crate::seeks;
 use crate::tally::{Tally, hex};
 
 /// What a record says, and its line: kind, and offset, frames and samples.
@@ -56,18 +57,14 @@ fn rows_of_page(page: &[u8]) -> Option<Vec<Row>> {
 /// The answer to a table and a page of that length, with a look at the whole table for each question.
 fn expected(table: &[u8], page_len: usize) -> Said<2> {
     let rows = rows_of_table(table);
-    let first = |wrong: fn(&Row) -> bool| {
-        let found = rows.iter().position(wrong);
-        found.map(|i| (RECORD * i) as u64)
-    };
-    let bad = first(|row| row.kind.is_none() || row.numbers[2] >= 1 << 62);
-    let too_many = first(|row| row.numbers[2].to_string().len() > 18);
+    let wide = |row: &Row| row.numbers[2].to_string().len() > 18;
+    let too_many = rows.iter().position(wide);
     if RECORD * rows.len() != table.len() {
         refused(41, 0)
-    } else if let Some(place) = bad {
+    } else if let Some(place) = seeks::bad_record(table) {
         refused(43, place)
-    } else if let Some(place) = too_many {
-        refused(70, place)
+    } else if let Some(i) = too_many {
+        refused(70, (RECORD * i) as u64)
     } else if page_len < LINE * rows.len() {
         refused(40, 0)
     } else {
@@ -177,7 +174,7 @@ fn questions(tally: &mut Tally) {
 }
 
 /// Records of these tags and samples, each at another offset, with another number of frames.
-fn table_of(kinds: &[(u32, u64)]) -> Vec<u8> {
+pub fn table_of(kinds: &[(u32, u64)]) -> Vec<u8> {
     let record = |(i, (tag, samples)): (usize, &(u32, u64))| Record {
         tag: *tag,
         offset: 316 + 11 * i as u32,

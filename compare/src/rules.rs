@@ -21,9 +21,12 @@ pub const BEGUN_SHORT: &str = "begun with fewer than 316 bytes written";
 pub const WRITE_LIMIT: &str = "a write that ends past the file limit";
 pub const NEGATIVE_REQUESTS: &str = "negative requests";
 pub const OPEN: &str = "zero width, height, fps or rate, other channel counts";
+/// This one is about 01, and not about the original: 02 has another order of a jump's questions.
+pub const STREAM_FIRST: &str =
+    "a jump of a stream that does not exist, over a table that is no whole number of records";
 
 /// All of them, so that the driver can tell which were never met and which stand in no row.
-pub const ALL: [&str; 14] = [
+pub const ALL: [&str; 15] = [
     CUT_SIZE,
     FILE_LIMIT,
     WALKER_RANGE,
@@ -38,6 +41,7 @@ pub const ALL: [&str; 14] = [
     WRITE_LIMIT,
     NEGATIVE_REQUESTS,
     OPEN,
+    STREAM_FIRST,
 ];
 
 /// What the original is expected to answer.

@@ -11,6 +11,7 @@ use crate::pages;
 use crate::pieces;
 use crate::random::Random;
 use crate::said::Write;
+use crate::seeks;
 use crate::sounds;
 use crate::tally::Tally;
 
@@ -49,6 +50,7 @@ pub fn movi(tally: &mut Tally, file: &[u8], table_slack: usize) {
 pub fn exhaustive(tally: &mut Tally, random: &mut Random) {
     tag_lists(tally);
     run_lengths(tally);
+    seeks::short(tally);
     pages::short(tally);
     sounds::short(tally);
     for _ in 0..20 {
