@@ -1,7 +1,8 @@
--- Two run lengths compared part by part, by the cases of the three tests, and the packed form read back by arithmetic. Assumes nothing.
+-- Two run lengths compared part by part, by the cases of the three tests, and the packed form: read back, and within its field, by arithmetic. Assumes
+-- nothing.
 use mathlib.Core.Path.{_≡_, refl}
 use mathlib.Core.Bool.{Bool, true, false, _&&_}
-use Prim.Native.Nat.{ℕ, _+_, _*_, _/_, _%_, _<_}
+use Prim.Native.Nat.{ℕ, _+_, _*_, _/_, _%_, _^_, _<_}
 use native.Mathlib.Omega.{arith}
 use lib.Dec.{eqb}
 use borrow.Author.Tests.{eq-eqb, eqb-true}
@@ -51,3 +52,8 @@ packed-back d s m h =
     let top : (d .minutes + 256 * d .hours) / 256 ≡ d .hours = omega arith in
     let third : p / 256 / 256 % 256 ≡ d .hours = rw (high, top) (omega arith) in
     λ i. record { seconds = first i; minutes = second i; hours = third i }
+
+-- and fits four bytes
+pub packed-small : (d : AmvDuration) → d .seconds < 256 → d .minutes < 256 → d .hours < 256 → packedOf d < 256 ^ 4
+unfolding packedOf le
+packed-small d s m h = omega arith

@@ -1,1 +1,2 @@
 pub mod Durations
+pub mod RunLengths

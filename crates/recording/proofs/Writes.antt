@@ -3,10 +3,10 @@ use mathlib.Core.Path.{_≡_, refl, sym, ap, _∙_}
 use mathlib.Core.Logic.{_⊎_, inl, inr}
 use mathlib.Core.Bool.{Bool, true, false, cond, _&&_}
 use mathlib.Core.List.{List, [], _∷_, _++_, append-assoc, append-nil, List·Memᴰ, List·Memᴰ·not-nil, List·Memᴰ·cases-cons}
-use Prim.Native.Nat.{ℕ, zero, suc, _+_, _/_, _^_, _≤_, _<_}
+use Prim.Native.Nat.{ℕ, zero, suc, _+_, _^_, _≤_, _<_}
 use native.Mathlib.Omega.{arith}
 use borrow.Author.Tests.{ne-eqb}
-use lib.Dec.{eqb, ltb}
+use lib.Dec.{ltb}
 use lib.ListN.{length, length-take}
 use lib.Seq.{take-append-le, drop-append-le}
 use Rattle.fields.proofs.Impossible.{impossible}
@@ -15,10 +15,10 @@ use Rattle.chunk.specs.Chunk.{trailerBytes, payloadLimit}
 use Rattle.error.specs.Answer.{Answer, accepted, refused}
 use Rattle.error.specs.declared.Refusal.{Refusal}
 use Rattle.fields.specs.File.{fileLimit}
-use Rattle.fields.specs.Le.{le, leBytes, put}
+use Rattle.fields.specs.Le.{leBytes, put}
 use Rattle.fields.proofs.Laws.{length-leBytes}
-use Rattle.duration.specs.Duration.{packedOf, ofSeconds, runLength}
-use Rattle.duration.specs.declared.AmvDuration.{AmvDuration}
+use Rattle.duration.specs.Duration.{packedOf, runLength}
+use Rattle.duration.proofs.RunLengths.{run-small}
 use Rattle.prelude.specs.Built.{preludeBytes}
 use Rattle.prelude.specs.Prelude.{strictOf}
 use Rattle.prelude.proofs.BuiltLaws.{length-prelude, patched, strict-built}
@@ -38,20 +38,6 @@ use Rattle.recording.specs.Grammar.{Passes, Finished}
 use Rattle.recording.specs.WriteLists.{WriteCall, header, packet, trailer, writeStep, kept, acceptedCalls, writerAfter, bufferAfter, writtenFile}
 use Rattle.recording.specs.WriteLists.{Sent, sentBy, sentIn, Held, Completed, Drains, WritesDrain}
 use Rattle.recording.proofs.Tables.{finished-walk}
-
--- ---- the run length fits its field
-
-packed-small : (d : AmvDuration) → d .seconds < 256 → d .minutes < 256 → d .hours < 256 → packedOf d < 256 ^ 4
-unfolding packedOf le
-packed-small d s m h = omega arith
-
-run-small : (frames fps : ℕ) → packedOf (runLength frames fps) < 256 ^ 4
-unfolding runLength ofSeconds
-run-small frames fps = go (eqb fps 0)
-  where
-    go : (b : Bool) → packedOf (cond b (record { seconds = 0; minutes = 0; hours = 0 }) (ofSeconds (frames / fps))) < 256 ^ 4
-    go true = packed-small _ (omega arith) (omega arith) (omega arith)
-    go false = packed-small _ (omega arith) (omega arith) (omega arith)
 
 -- ---- chunks, one more
 
