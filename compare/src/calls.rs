@@ -26,11 +26,19 @@ fn original_agrees<T: PartialEq>(
     expected.answer == *told
 }
 
+/// The packed run length of so many frames.
 pub fn from_frame_count(tally: &mut Tally, frames: u64, fps: u32) {
     let plain = PLAIN.run_length(frames, fps);
     let library = LIBRARY.run_length(frames, fps);
     let original = original::from_frame_count(frames, fps);
-    let same = plain == library && plain == original;
+    let expected = rules::from_frame_count(frames, fps, plain);
+    // 02: "Up to the cap the oracle is the Rust; above it, this rule."
+    let stated = match expected.rule {
+        None => original,
+        Some(_) => u32::from_le_bytes(rules::LONGEST),
+    };
+    let library_same = plain == library && library == stated;
+    let same = library_same & original_agrees(tally, &expected, &Some(original));
     tally.judge("from_frame_count", same, || {
         format!("{frames} {fps}: plain {plain}, library {library:?}, original {original}")
     });
@@ -429,13 +437,16 @@ pub fn write(tally: &mut Tally, writer: &mut WriterWords, buf: &mut [u8], call: 
     let mut library_writer = given;
     let library = LIBRARY.write(&mut library_writer, lent.lent(), call);
     let library_same = plain == library && library_writer == *writer && lent.holds(buf);
+    // 02: above the cap an accepted trailer puts the longest run length at 84.
+    let capped = plain.number == 0 && expected.rule == Some(rules::RUN_LENGTH);
+    let stated_same = !capped || buf[84..88] == rules::LONGEST;
     let told = expected
         .answer
         .as_ref()
         .and(writer_of(&given).ok())
         .map(|state| original::write(&state, &mut original_buf, call))
         .map(|wrote| (wrote, original_buf));
-    let same = library_same & original_agrees(tally, &expected, &told);
+    let same = library_same & stated_same & original_agrees(tally, &expected, &told);
     let function = match call {
         Write::Header => "write_header",
         Write::Packet(..) => "write_packet",

@@ -21,12 +21,13 @@ pub const BEGUN_SHORT: &str = "begun with fewer than 316 bytes written";
 pub const WRITE_LIMIT: &str = "a write that ends past the file limit";
 pub const NEGATIVE_REQUESTS: &str = "negative requests";
 pub const OPEN: &str = "zero width, height, fps or rate, other channel counts";
+pub const RUN_LENGTH: &str = "a run length above 921,599 seconds";
 /// This one is about 01, and not about the original: 02 has another order of a jump's questions.
 pub const STREAM_FIRST: &str =
     "a jump of a stream that does not exist, over a table that is no whole number of records";
 
 /// All of them, so that the driver can tell which were never met and which stand in no row.
-pub const ALL: [&str; 15] = [
+pub const ALL: [&str; 16] = [
     CUT_SIZE,
     FILE_LIMIT,
     WALKER_RANGE,
@@ -41,6 +42,7 @@ pub const ALL: [&str; 15] = [
     WRITE_LIMIT,
     NEGATIVE_REQUESTS,
     OPEN,
+    RUN_LENGTH,
     STREAM_FIRST,
 ];
 
@@ -150,6 +152,25 @@ pub fn open(settings: &Settings) -> Expected<bool> {
     }
 }
 
+/// What 02 has for every run length above the cap: 255 h, 59 min, 59 s.
+pub const LONGEST: [u8; 4] = [59, 59, 255, 0];
+
+/// The original's run length where it is above the cap: the hours stop at 255, and the minutes go on to 255.
+fn uncapped(frames: u64, fps: u32) -> Option<[u8; 4]> {
+    let seconds = frames.checked_div(fps.into())?;
+    let after_hours = seconds.checked_sub(255 * 3600)?;
+    let minutes = after_hours / 60;
+    (minutes > 59).then_some([(after_hours % 60) as u8, minutes.min(255) as u8, 255, 0])
+}
+
+/// A run length, packed.
+pub fn from_frame_count(frames: u64, fps: u32, plain: u32) -> Expected<u32> {
+    match uncapped(frames, fps) {
+        Some(bytes) => Expected::by(RUN_LENGTH, u32::from_le_bytes(bytes)),
+        None => Expected::same(plain),
+    }
+}
+
 /// What a writing call says and leaves, with the buffer's bytes after it. `given` and `buf` are those before the call.
 pub fn write(given: &Writer, buf: &[u8], call: Write) -> Expected<(Wrote, Vec<u8>)> {
     let mut writer = *given;
@@ -177,8 +198,18 @@ pub fn write(given: &Writer, buf: &[u8], call: Write) -> Expected<(Wrote, Vec<u8
         }
         56 => Expected::unasked(BEGUN_SHORT),
         54 => Expected::by(FAILED_WRITE, failed_write(given, buf, call)),
+        0 if matches!(call, Write::Trailer) => trailer(given, wrote, bytes),
         _ => Expected::same((wrote, bytes)),
     }
+}
+
+/// An accepted trailer, whose run length is the original's.
+fn trailer(given: &Writer, wrote: Wrote, mut bytes: Vec<u8>) -> Expected<(Wrote, Vec<u8>)> {
+    let Some(run_length) = uncapped(given.frames, given.settings.fps) else {
+        return Expected::same((wrote, bytes));
+    };
+    bytes[84..88].copy_from_slice(&run_length);
+    Expected::by(RUN_LENGTH, (wrote, bytes))
 }
 
 /// The frame counts, and what fits is written.

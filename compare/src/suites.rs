@@ -99,7 +99,7 @@ fn tag_lists(tally: &mut Tally) {
     }
 }
 
-/// Frame counts at every boundary of hours, minutes and seconds.
+/// Frame counts at every boundary of hours, minutes and seconds, asked for and in a trailer.
 fn run_lengths(tally: &mut Tally) {
     let seconds = [
         0, 1, 59, 60, 61, 3599, 3600, 3661, 917_999, 918_000, 921_599,
@@ -113,9 +113,25 @@ fn run_lengths(tally: &mut Tally) {
             for by in [-1, 0, 1] {
                 let frames = (s * fps as u64).saturating_add_signed(by);
                 calls::from_frame_count(tally, frames, fps);
+                trailer(tally, frames, fps);
             }
         }
     }
+}
+
+/// The trailer of a writer that has counted so many frames.
+fn trailer(tally: &mut Tally, frames: u64, fps: u32) {
+    let settings = plain::Settings {
+        fps,
+        ..files::EXAMPLE_SETTINGS
+    };
+    let mut writer = words::writer_words(&Writer {
+        begun: true,
+        written: PRELUDE as u64,
+        frames,
+        ..Writer::fresh(settings)
+    });
+    calls::write(tally, &mut writer, &mut [0xa5; 324], Write::Trailer);
 }
 
 /// A round of random inputs for every function.

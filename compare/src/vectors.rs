@@ -292,7 +292,8 @@ fn validate_movi_interleave(cases: &mut Cases, tags: &[u32]) {
     cases.add(call, said.number.into(), &said.out, &[]);
 }
 
-fn from_frame_count(cases: &mut Cases, frames: u64, fps: u32) {
+/// The call of a run length, and the number that it returns.
+fn add_run_length(cases: &mut Cases, frames: u64, fps: u32, packed: u32) {
     let call = Call {
         function: FROM_FRAME_COUNT,
         bytes: &[],
@@ -300,12 +301,17 @@ fn from_frame_count(cases: &mut Cases, frames: u64, fps: u32) {
         parameters: [frames, fps.into(), 0],
         state: &[],
     };
-    cases.add(
-        call,
-        original::from_frame_count(frames, fps).into(),
-        &[],
-        &[],
-    );
+    cases.add(call, packed.into(), &[], &[]);
+}
+
+fn from_frame_count(cases: &mut Cases, frames: u64, fps: u32) {
+    let plain = PLAIN.run_length(frames, fps);
+    if rules::from_frame_count(frames, fps, plain).rule.is_some() {
+        cases.left_out += 1;
+        return;
+    }
+    let packed = original::from_frame_count(frames, fps);
+    add_run_length(cases, frames, fps, packed);
 }
 
 /// The header at an offset, by the original's parse of the bytes from there: 02 has the two answer alike.
@@ -524,8 +530,12 @@ fn run_lengths(cases: &mut Cases) {
         1116,
         43_199,
         43_200,
-        11_059_200,
+        921_598,
+        921_599,
         921_600,
+        11_059_188,
+        11_059_199,
+        11_059_200,
         1_000_000_000_000,
         u64::MAX,
     ];

@@ -2,13 +2,15 @@
 
 use crate::{Answer, FILE_LIMIT, PRELUDE, Settings, TRAILER, ask, build_prelude_bytes, stream_tag};
 
-/// The run length of so many frames, packed: seconds, minutes, hours, 0.
+/// The run length of so many frames, packed: seconds, minutes, hours, 0. From 256 hours on it is 255 h 59 min 59 s.
 pub fn from_frame_count(frames: u64, fps: u32) -> [u8; 4] {
     let seconds = frames.checked_div(fps as u64).unwrap_or(0);
-    let hours = (seconds / 3600).min(255);
-    let rest = seconds - 3600 * hours;
-    let minutes = (rest / 60).min(255);
-    [(rest % 60) as u8, minutes as u8, hours as u8, 0]
+    if seconds >= 256 * 3600 {
+        return [59, 59, 255, 0];
+    }
+    let [minutes, seconds] = [seconds / 60, seconds % 60];
+    let [hours, minutes] = [minutes / 60, minutes % 60];
+    [seconds as u8, minutes as u8, hours as u8, 0]
 }
 
 /// What has been written, and how. The file is the first `written` bytes of the buffer that is lent to each call.

@@ -1,13 +1,13 @@
 //! Answers that the original does not have. Each is written out here from 01's text, those with number 1 from the
-//! header of the C interface, those of a page and of a sound block from 02's text; the plain implementation must answer the same before a
-//! case is stored, so that two readings of each text meet.
+//! header of the C interface, those of a page, of a sound block and of a run length above the cap from 02's text; the plain implementation
+//! must answer the same before a case is stored, so that two readings of each text meet.
 
 use plain::words::{WalkerWords, WriterWords};
 use plain::{AUDIO, VIDEO};
 
 use super::{
     BUILD_CHUNK_INDEX, CHECK, Call, Cases, DECODE_BLOCK, LISTING, NEXT_PACKET, PARSE, PRINT_INDEX,
-    SEEK_TO_VIA_INDEX, SUMMARY, request_words, written_parts,
+    SEEK_TO_VIA_INDEX, SUMMARY, WRITE_TRAILER, add_run_length, request_words, written_parts,
 };
 use crate::interface::PLAIN;
 use crate::said::{Said, Write, accepted, refused};
@@ -731,6 +731,53 @@ fn writes(cases: &mut Cases) {
     }
 }
 
+/// Above 921,599 seconds: 255 h, 59 min, 59 s.
+fn run_lengths(cases: &mut Cases) {
+    let longest = [59, 59, 255, 0];
+    for (frames, fps) in [
+        (921_600, 1),
+        (921_601, 1),
+        (921_660, 1),
+        (933_299, 1),
+        (933_300, 1),
+        (933_360, 1),
+        (1_000_000_000_000, 1),
+        (LAST, 1),
+        (1_843_200, 2),
+        (11_059_200, 12),
+        (11_059_201, 12),
+        (1_000_000_000_000, 12),
+        (LAST, 12),
+        (LAST, u32::MAX),
+    ] {
+        let packed = u32::from_le_bytes(longest);
+        assert_eq!(PLAIN.run_length(frames, fps), packed, "{frames} {fps}");
+        add_run_length(cases, frames, fps, packed);
+    }
+    for frames in [11_059_200, 11_059_212, 11_919_600, LAST] {
+        trailer(cases, frames, longest);
+    }
+}
+
+/// An accepted trailer after E's prelude, with so many frames: it ends the file, and the run length goes to 84.
+fn trailer(cases: &mut Cases, frames: u64, run_length: [u8; 4]) {
+    let given = writer([1, 0, 316, frames]);
+    let left = writer([1, 1, 324, frames]);
+    let lent = [0xa5; 330];
+    let mut after = lent;
+    after[84..88].copy_from_slice(&run_length);
+    after[316..324].copy_from_slice(b"AMV_END_");
+    let (mut writer, mut buf) = (given, lent);
+    let said = PLAIN.write(&mut writer, &mut buf, Write::Trailer);
+    assert_eq!((said, writer, buf), (accepted(&[]), left, after));
+    let call = Call {
+        lent: &lent,
+        state: &given,
+        ..call_of(WRITE_TRAILER, &[])
+    };
+    cases.add(call, 0, &[&[0][..], &left[..]].concat(), &after);
+}
+
 fn listings(cases: &mut Cases) {
     let example = files::example();
     let longest = recording(&[V(3), A(10, 2), A(65_175, 5)]);
@@ -781,5 +828,6 @@ pub fn all(cases: &mut Cases) {
     blocks(cases);
     refused_blocks(cases);
     writes(cases);
+    run_lengths(cases);
     listings(cases);
 }

@@ -45,7 +45,8 @@ ghost use Rattle.capi.specs.Calls.{WalkerCall, nextAnswer, nextWalker, s
 // The number of a call whose state's words are not all in their fields' ranges.
 const ILLEGAL_STATE: u32 = 1;
 
-// The packed run length of a number of frames, 0 for fps 0: a caller that fills in a header asks for it. It refuses nothing.
+// The packed run length of a number of frames, 0 for fps 0, minutes and seconds at most 59: a caller that fills in a header asks for it, and one
+// that shows how long a file plays. It refuses nothing.
 #[no_mangle]
 pub extern "C" fn amv_from_frame_count(frames: u64, fps: u32) -> u32
     ensures { λ r. ⌜ r ≡ packedOf (runLength frames fps) ⌝ }

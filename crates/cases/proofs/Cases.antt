@@ -3,6 +3,7 @@ use mathlib.Core.Path.{refl}
 use borrow.Author.Tests.{ne-eqb}
 use Rattle.fields.specs.Le.{le, leBytes}
 use Rattle.duration.specs.Duration.{packedOf, runLength, ofSeconds}
+use Rattle.duration.specs.OnlyAboveCap.{runLengthBefore}
 use Rattle.chunk.specs.Interleave.{interleaveFrom}
 use Rattle.parse.specs.Header.{headerFields, headerSentinels}
 use Rattle.parse.specs.Preamble.{preambleOf}
@@ -26,13 +27,14 @@ use Rattle.cases.specs.Cases.{Cases}
 use Rattle.cases.specs.Example.{E}
 
 pub cases : Cases
-unfolding le leBytes packedOf runLength ofSeconds interleaveFrom headerFields headerSentinels cbSizeOf waveFormatFields waveFormatOf waveFormatSentinels
-    preludeBytes layout askWord askBody askItems preludeFields parseOf zeros zeroRanges validatedOf strictOf preambleOf headAt countOf payloadOf shownOf inRange
-    readFrame readSound readChunk readOf stepAt walkFor walk chunkBytes chunksBytes entryBytes tableBytes entryAt entriesFrom records tagsKnown indexOf
-    countsFrom summaryOf askEach seekQuestions find pastLast seekOf tagsOf checkFrom checkOf E
+unfolding le leBytes packedOf runLength ofSeconds runLengthBefore interleaveFrom headerFields headerSentinels cbSizeOf waveFormatFields waveFormatOf
+    waveFormatSentinels preludeBytes layout askWord askBody askItems preludeFields parseOf zeros zeroRanges validatedOf strictOf preambleOf headAt countOf
+    payloadOf shownOf inRange readFrame readSound readChunk readOf stepAt walkFor walk chunkBytes chunksBytes entryBytes tableBytes entryAt entriesFrom
+    records tagsKnown indexOf countsFrom summaryOf askEach seekQuestions find pastLast seekOf tagsOf checkFrom checkOf E
 cases =
     record {
       one = refl;
+      two-before = refl;
       two = refl;
       three-million = refl;
       three-needs-one = λ micros n. rw (ne-eqb micros 1 n);

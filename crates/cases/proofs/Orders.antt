@@ -4,6 +4,7 @@ use mathlib.Core.List.{[], _∷_}
 use native.Mathlib.Omega.{arith}
 use Rattle.fields.specs.Le.{le, leBytes, put}
 use Rattle.duration.specs.Duration.{packedOf, unpackedOf, runLength, ofSeconds}
+use Rattle.duration.specs.OnlyAboveCap.{runLengthBefore}
 use Rattle.chunk.specs.Chunk.{videoTag, chunkHeaderOf, chunkHeaderAt}
 use Rattle.chunk.specs.Interleave.{interleaveFrom}
 use Rattle.parse.specs.Header.{headerFields, headerSentinels}
@@ -18,17 +19,17 @@ use Rattle.chunk_index.specs.Entry.{entryBytes, tableBytes, entryAt, entriesFro
 use Rattle.table.specs.Table.{askEach}
 use Rattle.seek.specs.Seek.{seekQuestions, find, pastLast, seekOf}
 use Rattle.seek.specs.StreamFirst.{questionsBefore, seekBefore}
-use Rattle.muxer.specs.Writer.{headerQuestions, headerCall, packetQuestions, packetCall, trailerQuestions, trailerCall}
+use Rattle.muxer.specs.Writer.{headerQuestions, headerCall, packetQuestions, packetCall, patchRunLength, trailerQuestions, trailerCall}
 use Rattle.finished.specs.Check.{checkOf}
 use Rattle.cases.specs.Cases.{position}
 use Rattle.cases.specs.Numbers.{P}
 use Rattle.cases.specs.Orders.{spoiling, eachFirst, eachCut, Orders}
 
 pub orders : Orders
-unfolding le leBytes put interleaveFrom headerFields headerSentinels cbSizeOf waveFormatFields waveFormatSentinels preambleOf chunkHeaderOf preludeBytes layout
-    askWord askBody askItems preludeFields parseOf zeros zeroRanges validatedOf strictOf inRange readOf checkOf headerQuestions headerCall packetQuestions
-    packetCall trailerQuestions trailerCall packedOf unpackedOf runLength ofSeconds spoiling eachFirst eachCut P chunkHeaderAt entryBytes tableBytes entryAt
-    entriesFrom askEach seekQuestions find pastLast seekOf questionsBefore seekBefore
+unfolding le leBytes put interleaveFrom headerFields headerSentinels cbSizeOf waveFormatFields waveFormatSentinels preambleOf chunkHeaderOf preludeBytes
+    layout askWord askBody askItems preludeFields parseOf zeros zeroRanges validatedOf strictOf inRange readOf checkOf headerQuestions headerCall
+    packetQuestions packetCall trailerQuestions trailerCall patchRunLength packedOf unpackedOf runLength ofSeconds runLengthBefore spoiling eachFirst
+    eachCut P chunkHeaderAt entryBytes tableBytes entryAt entriesFrom askEach seekQuestions find pastLast seekOf questionsBefore seekBefore
 orders =
     record {
       parsed = refl;
@@ -73,4 +74,11 @@ orders =
       unpacked = refl;
       run-length = refl;
       no-fps = refl;
+      before-cap = refl;
+      at-cap = refl;
+      trailer-cap = refl;
+      far-before = refl;
+      above-cap = record { rate = omega arith; above = omega arith };
+      up-to-cap = λ a. let h = a .above in omega arith;
+      no-rate = λ a. let h = a .rate in omega arith;
     }

@@ -8,6 +8,7 @@ use lib.IntN.{pos, negsuc}
 use lib.ListN.{length, take}
 use Rattle.error.specs.Answer.{accepted, refused, numbered}
 use Rattle.duration.specs.Duration.{packedOf, runLength}
+use Rattle.duration.specs.OnlyAboveCap.{runLengthBefore}
 use Rattle.chunk.specs.Chunk.{videoTag, audioTag}
 use Rattle.chunk.specs.Interleave.{interleave}
 use Rattle.parse.specs.Header.{headerSentinels}
@@ -76,8 +77,9 @@ secondRead n = readOf (take n E) (readOf (take n E) fresh .walker) .answer
 pub record Cases : Type 0 where
   -- (1) 1116 frames at 12: packed 289
   pub one : packedOf (runLength 1116 12) ≡ 289
-  -- (2) 921,600 at 1: 255 h, 60 min, 0 s
-  pub two : runLength 921600 1 ≡ record { seconds = 0; minutes = 60; hours = 255 }
+  -- (2) 921,600 at 1: by 01 255 h, 60 min, 0 s; 02, M-105: "Case (2) now gives" 255 h, 59 min, 59 s
+  pub two-before : runLengthBefore 921600 1 ≡ record { seconds = 0; minutes = 60; hours = 255 }
+  pub two : runLength 921600 1 ≡ record { seconds = 59; minutes = 59; hours = 255 }
   -- (3) fps 1,000,000 needs micros 1; 1,000,001 needs 0, and 1 gives 15
   pub three-million : headerSentinels (timed 1000000 1) ≡ accepted tt
   pub three-needs-one : (micros : ℕ) → (micros ≡ 1 → ⊥) → headerSentinels (timed 1000000 micros) ≡ refused (numbered 15 32)

@@ -5,10 +5,11 @@ use mathlib.Core.List.{List, [], _∷_, _++_}
 use Prim.Native.Nat.{ℕ, _+_, _^_}
 use lib.Dec.{eqb}
 use lib.IntN.{pos}
-use lib.ListN.{length, take}
+use lib.ListN.{length, take, drop}
 use Rattle.error.specs.Answer.{Answer, accepted, numbered, numberOf, placeOf}
 use Rattle.fields.specs.Le.{put}
 use Rattle.duration.specs.Duration.{packedOf, unpackedOf, runLength}
+use Rattle.duration.specs.OnlyAboveCap.{runLengthBefore, AboveCap}
 use Rattle.chunk.specs.Chunk.{videoTag, chunkHeaderOf, chunkHeaderAt}
 use Rattle.chunk.specs.Interleave.{interleave}
 use Rattle.parse.specs.Preamble.{preambleOf}
@@ -23,6 +24,8 @@ use Rattle.chunk_index.specs.Entry.{entriesOf}
 use Rattle.table.specs.Table.{goodEntry}
 use Rattle.table.specs.Sentences.{FirstNo, Good}
 use Rattle.seek.specs.StreamFirst.{seekBefore, BothWrong}
+use Rattle.muxer.specs.Writer.{trailerCall}
+use Rattle.muxer.specs.declared.Writer.{Writer}
 use Rattle.finished.specs.Check.{checkOf}
 use Rattle.cases.specs.Cases.{position, ownIndex}
 use Rattle.cases.specs.Numbers.{no, P, then, zeroed, walkerAt, reads, seeks, recordOf, writerAt, heads, packs, ends}
@@ -68,6 +71,10 @@ sentinels =
 unfoldable pub eachCut : List ℕ → Bool
 eachCut [] = true
 eachCut (p ∷ ps) = eqb (numberOf (parseOf (take (p + 3) P))) 11 && eqb (placeOf (parseOf (take (p + 3) P))) p && eachCut ps
+
+-- a writer of E's settings that has begun, and has counted so many frames at 12 a second
+abbrev pub ofFrames : ℕ → Writer
+ofFrames frames = record { settings = writerAt true false 316 .settings; begun = true; ended = false; written = 316; frames = frames }
 
 -- a walker that is out of range
 abbrev pub farther : Walker
@@ -122,3 +129,13 @@ pub record Orders : Type 0 where
   pub unpacked : unpackedOf (3 + 0x0200 + 0x010000) ≡ record { seconds = 3; minutes = 2; hours = 1 }
   pub run-length : runLength 44676 12 ≡ record { seconds = 3; minutes = 2; hours = 1 }
   pub no-fps : runLength 44676 0 ≡ record { seconds = 0; minutes = 0; hours = 0 }
+  -- 02, M-105: the second before the cap, and the cap, which is the Rust's too; in a trailer "seconds, minutes, hours, 0"
+  pub before-cap : runLength 921598 1 ≡ record { seconds = 58; minutes = 59; hours = 255 }
+  pub at-cap : runLength 921599 1 ≡ record { seconds = 59; minutes = 59; hours = 255 }
+  pub trailer-cap : take 4 (drop 84 (trailerCall (ofFrames 11059200) (zeroed 324) .buffer)) ≡ 59 ∷ 59 ∷ 255 ∷ 0 ∷ []
+  -- 01's rule far above it, as the Rust has it
+  pub far-before : runLengthBefore 1000000000000 1 ≡ record { seconds = 40; minutes = 255; hours = 255 }
+  -- the condition of duration/OnlyAboveCap: of the smallest frame count, and neither of one less nor without a rate
+  pub above-cap : AboveCap 921600 1
+  pub up-to-cap : AboveCap 921599 1 → ⊥
+  pub no-rate : AboveCap 921600 0 → ⊥

@@ -1,2 +1,4 @@
 pub mod Durations
 pub mod RunLengths
+pub mod Sentences
+pub mod OnlyAboveCap

@@ -2,7 +2,7 @@
 use Prim.Native.Nat.{ℕ, _+_, _-_, _*_, _/_, _%_, min}
 use mathlib.Core.Bool.{Bool, true, false, cond, _&&_}
 use mathlib.Core.List.{List, [], _∷_}
-use lib.Dec.{eqb}
+use lib.Dec.{eqb, leb}
 use lib.ListN.{getD}
 use Rattle.fields.specs.Le.{le, leBytes}
 use Rattle.duration.specs.declared.AmvDuration.{AmvDuration}
@@ -33,9 +33,18 @@ ofSeconds s =
     let r = s - 3600 * hours in
     record { seconds = r % 60; minutes = min (r / 60) 255; hours = hours }
 
+-- 02, M-105: "Above 921,599 seconds the run length becomes 255 h, 59 min, 59 s."
+abbrev pub maxSeconds : ℕ
+maxSeconds = 921599
+
+abbrev pub longest : AmvDuration
+longest = record { seconds = 59; minutes = 59; hours = 255 }
+
 -- 01's `from_frame_count`: "seconds s = frames/fps", and "Fps 0 gives zeros"
 unfoldable pub runLength : ℕ → ℕ → AmvDuration
-runLength frames fps = cond (eqb fps 0) (record { seconds = 0; minutes = 0; hours = 0 }) (ofSeconds (frames / fps))
+runLength frames fps =
+    let s = frames / fps in
+    cond (eqb fps 0) (record { seconds = 0; minutes = 0; hours = 0 }) (cond (leb s maxSeconds) (ofSeconds s) longest)
 
 -- all three parts are equal
 abbrev pub sameDuration : AmvDuration → AmvDuration → Bool

@@ -1,6 +1,6 @@
 // The run length: hours, minutes and seconds, a byte each.
 ghost use mathlib.Core.Path.{_≡_};
-ghost use Rattle.duration.specs.Duration.{unpackedOf, packedOf, totalSeconds, ofSeconds, runLength, sameDuration, consistency, deviceConformant};
+ghost use Rattle.duration.specs.Duration.{unpackedOf, packedOf, totalSeconds, runLength, sameDuration, consistency, deviceConformant};
 
 // A run length as the file has it.
 pub struct AmvDuration {
@@ -18,6 +18,9 @@ pub enum DurationConsistency {
 }
 
 impl AmvDuration {
+    // The longest run length of a frame count, in seconds: 255 h 59 min 59 s.
+    pub const MAX_SECONDS: u64 = 921599;
+
     // The run length of a packed number; its fourth byte is not looked at. Refuses nothing.
     pub fn from_packed(packed: u32) -> AmvDuration
         ensures { λ r. ⌜ r ≡ unpackedOf packed ⌝ }
@@ -43,21 +46,8 @@ impl AmvDuration {
         (self.hours as u32) * 3600 + (self.minutes as u32) * 60 + (self.seconds as u32)
     }
 
-    // Hours and minutes are capped at what their byte holds; what the hours leave goes to the minutes.
-    fn from_seconds(total_seconds: u64) -> AmvDuration
-        ensures { λ r. ⌜ r ≡ ofSeconds «total_seconds» ⌝ }
-    {
-        let hours = fields::min(total_seconds / 3600, 255);
-        let after_hours = total_seconds - 3600 * hours;
-        let minutes = fields::min(after_hours / 60, 255);
-        AmvDuration {
-            seconds: (after_hours % 60) as u8,
-            minutes: minutes as u8,
-            hours: hours as u8,
-        }
-    }
-
-    // The run length of so many frames, rounded down to seconds, zeros for fps 0. Refuses nothing.
+    // The run length of so many frames, rounded down to seconds, zeros for fps 0. More than `MAX_SECONDS` are 255 h 59 min 59 s, so minutes and
+    // seconds are at most 59. Refuses nothing.
     pub fn from_frame_count(frame_count: u64, fps: u32) -> AmvDuration
         ensures { λ r. ⌜ r ≡ runLength «frame_count» fps ⌝ }
     {
@@ -68,7 +58,14 @@ impl AmvDuration {
                 hours: 0,
             };
         }
-        AmvDuration::from_seconds(frame_count / (fps as u64))
+        let total_seconds = fields::min(frame_count / (fps as u64), AmvDuration::MAX_SECONDS);
+        let hours = total_seconds / 3600;
+        let after_hours = total_seconds - 3600 * hours;
+        AmvDuration {
+            seconds: (after_hours % 60) as u8,
+            minutes: (after_hours / 60) as u8,
+            hours: hours as u8,
+        }
     }
 
     // Whether all three parts are equal.
@@ -84,14 +81,15 @@ impl AmvDuration {
         self.hours == other.hours
     }
 
-    // Whether this is the run length of so many frames. Refuses nothing.
+    // Whether this is the run length of so many frames, as `from_frame_count` has it. Refuses nothing.
     pub fn is_consistent_with_frame_count(self, frame_count: u64, fps: u32) -> bool
         ensures { λ r. ⌜ r ≡ sameDuration self (runLength «frame_count» fps) ⌝ }
     {
         self.equals(AmvDuration::from_frame_count(frame_count, fps))
     }
 
-    // The same as a grade, since some devices write one second less. Refuses nothing.
+    // The same as a grade, since some devices write one second less. What the original's rule gives above `MAX_SECONDS` is a mismatch. Refuses
+    // nothing.
     pub fn consistency_with_frame_count(self, frame_count: u64, fps: u32) -> DurationConsistency
         ensures { λ r. ⌜ r ≡ consistency self (runLength «frame_count» fps) ⌝ }
     {
