@@ -2,22 +2,26 @@
 -- its own. Assumes nothing.
 use mathlib.Core.Path.{_≡_, refl, ap, _∙_}
 use mathlib.Core.Bool.{Bool, true, false, not, cond, _&&_}
-use mathlib.Core.List.{List, [], _∷_}
-use Prim.Native.Nat.{ℕ, _+_, _<_, min}
+use mathlib.Core.List.{List, [], _∷_, _++_}
+use Prim.Native.Nat.{ℕ, _+_, _≤_, _<_, min}
 use native.Mathlib.Omega.{arith}
 use borrow.Author.Tests.{lt-ltb, le-ltb}
 use lib.Dec.{leb, ltb, eqb}
-use lib.ListN.{length}
-use Rattle.chunk.specs.Chunk.{payloadLimit}
-use Rattle.duration.specs.Duration.{packedOf, runLength}
+use lib.ListN.{length, length-append, length-take}
+use Rattle.chunk.specs.Chunk.{payloadLimit, trailerBytes}
+use Rattle.duration.specs.Duration.{packedOf, unpackedOf, runLength}
+use Rattle.duration.proofs.RunLengths.{run-small}
+use Rattle.duration.proofs.Sentences.{run-length-sentences}
 use Rattle.error.specs.Answer.{Answer, accepted, refused, ask}
 use Rattle.error.specs.Sentences.{oneOf, RefusedBy}
-use Rattle.fields.specs.Le.{leBytes, put}
+use Rattle.fields.specs.Le.{le, leBytes, put}
+use Rattle.fields.proofs.Laws.{le-put}
 use Rattle.prelude.specs.Layout.{preludeLen}
-use Rattle.muxer.specs.Sentences.{Lent, left, RefusedAt, PacketAdded, WriteSentences}
+use Rattle.muxer.specs.Sentences.{Lent, left, fileIn, RefusedAt, PacketAdded, WriteSentences}
 use Rattle.muxer.specs.Writer.{outcome, fits, hasPrelude, frameLimit, packetBytes, patchRunLength, askOpen, headerQuestions, packetQuestions}
 use Rattle.muxer.specs.Writer.{trailerQuestions, headerCall, packetCall, trailerCall}
 use Rattle.muxer.specs.declared.Writer.{Writer}
+use Rattle.muxer.proofs.Steps.{TrailerPassed}
 use Rattle.muxer.proofs.Writes.{header-refused, packet-refused, trailer-refused, header-accepted, packet-accepted, trailer-accepted}
 
 -- ---- questions with one place
@@ -125,11 +129,24 @@ packet-adds payload stream l e =
 
 -- ---- the run length
 
+-- the file reaches past its field
+long : (l : Lent) → TrailerPassed (l .writer) (length (l .buffer)) → 84 ≤ length (fileIn l ++ trailerBytes)
+long l p =
+    let h = p .ready .prelude in
+    let i = p .inside in
+    simp (length-append, length-take) (omega arith)
+
 module _ (w : Writer) (xs : List ℕ) where
   patched : 0 < w .settings .fps → 0 < w .frames
       → patchRunLength w xs ≡ put xs 84 (leBytes 4 (packedOf (runLength (w .frames) (w .settings .fps))))
   unfolding patchRunLength
   patched f n = rw (lt-ltb 0 (w .settings .fps) f, lt-ltb 0 (w .frames) n)
+
+  read-back : 84 ≤ length xs → 0 < w .settings .fps → 0 < w .frames
+      → unpackedOf (le 4 (patchRunLength w xs) 84) ≡ runLength (w .frames) (w .settings .fps)
+  read-back h f n =
+      rw (patched f n, le-put 4 xs 84 _ h (run-small (w .frames) (w .settings .fps)))
+      (run-length-sentences .packed-back (w .frames) (w .settings .fps))
 
   at-fps-0 : w .settings .fps ≡ 0 → patchRunLength w xs ≡ xs
   unfolding patchRunLength
@@ -187,6 +204,7 @@ write-sentences =
           let w = t .writer in
           record {
             file = λ f n. t .file ∙ patched (l .writer) _ f n;
+            run-length = λ f n. rw (t .file) (read-back (l .writer) _ (long l (t .passed)) f n);
             no-fps = λ f. t .file ∙ at-fps-0 (l .writer) _ f;
             no-frames = λ n. t .file ∙ at-no-frames (l .writer) _ n;
             ended = ap (λ (v : Writer). v .ended) w;

@@ -5,10 +5,10 @@ use mathlib.Core.Bool.{true, false}
 use mathlib.Core.List.{List, [], _∷_, _++_}
 use lib.ListN.{length, take}
 use Rattle.chunk.specs.Chunk.{streamTag, trailerBytes}
-use Rattle.duration.specs.Duration.{packedOf, runLength}
+use Rattle.duration.specs.Duration.{packedOf, unpackedOf, runLength}
 use Rattle.error.specs.Answer.{Answer, accepted, refused}
 use Rattle.error.specs.Sentences.{GivesBack, RefusedBy}
-use Rattle.fields.specs.Le.{leBytes, put}
+use Rattle.fields.specs.Le.{le, leBytes, put}
 use Rattle.prelude.specs.Built.{preludeBytes}
 use Rattle.prelude.specs.Layout.{preludeLen}
 use Rattle.muxer.specs.Writer.{fresh, frameLimit, WriteOutcome, headerCall, packetCall, trailerCall}
@@ -64,6 +64,9 @@ pub record HeaderAdded (l m : Lent) : Type 0 where
 pub record TrailerAdded (l m : Lent) : Type 0 where
   pub file : 0 < l .writer .settings .fps → 0 < l .writer .frames
       → fileIn m ≡ put (fileIn l ++ trailerBytes) 84 (leBytes 4 (packedOf (runLength (l .writer .frames) (l .writer .settings .fps))))
+  -- 02, M-105: "The trailer writer .. follow": what is read at 84 then is the run length of the frames, which a display can show (duration/Sentences)
+  pub run-length : 0 < l .writer .settings .fps → 0 < l .writer .frames
+      → unpackedOf (le 4 (fileIn m) 84) ≡ runLength (l .writer .frames) (l .writer .settings .fps)
   pub no-fps : l .writer .settings .fps ≡ 0 → fileIn m ≡ fileIn l ++ trailerBytes
   pub no-frames : l .writer .frames ≡ 0 → fileIn m ≡ fileIn l ++ trailerBytes
   pub ended : m .writer .ended ≡ true
