@@ -33,13 +33,16 @@ extern "C" {
 /* The version of this header and its library: a change of what a call answers, of a state's words or of a record's bytes moves the second
  * number while the first is 0, and an addition the third. */
 #define AMV_VERSION_MAJOR 0
-#define AMV_VERSION_MINOR 3
+#define AMV_VERSION_MINOR 4
 #define AMV_VERSION_PATCH 0
-#define AMV_VERSION "0.3.0"
+#define AMV_VERSION "0.4.0"
 
 /* A file's longest length in bytes; the bytes of a prelude, at whose end the first chunk stands. */
 #define AMV_FILE_LIMIT 4294967295
 #define AMV_PRELUDE_LEN 316
+
+/* The longest run length in seconds, 255 h 59 min 59 s: what a longer recording has too. */
+#define AMV_DURATION_MAX_SECONDS 921599
 
 /* The two streams, and the tags of their chunks as little-endian numbers: 00dc and 01wb. */
 #define AMV_STREAM_VIDEO 0
@@ -97,7 +100,11 @@ enum {
  * that a device fixes is asked for too, as amv_check does; files of other programs, FFmpeg's among them, can be turned away by that and play
  * all the same. out: place, microseconds a frame, width, height, fps, flag, reserved, run length (packed: seconds, minutes times 256, hours
  * times 65536), format, channels, rate, average bytes a second, align, bits, cbSize, offset of the first chunk. Refuses with 10 to 13; with
- * strict with 14 to 24 too. */
+ * strict with 14 to 24 too.
+ *
+ * The run length is what stands in the file, and is not asked about. It is written with the trailer, so a recording that was never finished
+ * has 0; another program, or this library up to version 0.3, can have left minutes over 59. To show how long a file plays, give the frames of
+ * amv_summary to amv_from_frame_count. */
 enum {
     AMV_PARSE_MICROS_PER_FRAME = 1,
     AMV_PARSE_WIDTH,
@@ -220,16 +227,17 @@ uint32_t amv_write_header(uint64_t writer[AMV_WRITER_WORDS], uint8_t *buf, size_
  * 56, 52, 53 and 54. */
 uint32_t amv_write_packet(uint64_t writer[AMV_WRITER_WORDS], uint8_t *buf, size_t len, const uint8_t *payload, size_t payload_len, uint32_t stream, uint64_t out[1]);
 
-/* Writes the trailer, and the run length into the prelude if there is one; the last call of a writer. out: place. Refuses with 1, 51, 55,
- * 56 and 54. */
+/* Writes the trailer, and the run length into the prelude if there is one, as amv_from_frame_count gives it; the last call of a writer. out:
+ * place. Refuses with 1, 51, 55, 56 and 54. */
 uint32_t amv_write_trailer(uint64_t writer[AMV_WRITER_WORDS], uint8_t *buf, size_t len, uint64_t out[1]);
 
 /* Whether tags (AMV_VIDEO_CHUNK_TAG, AMV_AUDIO_CHUNK_TAG) alternate, a picture first and as many of each. out: place, a position among the
  * tags. Refuses with 62 to 65. */
 uint32_t amv_validate_movi_interleave(const uint32_t *tags, size_t count, uint64_t out[1]);
 
-/* The packed run length of a number of frames: seconds, minutes times 256, hours times 65536; 0 for fps 0. Hours and minutes are at most
- * 255. Never refuses. */
+/* The packed run length of a number of frames: seconds, minutes times 256, hours times 65536; 0 for fps 0. Minutes and seconds are at most
+ * 59, and above AMV_DURATION_MAX_SECONDS seconds it is 255 h 59 min 59 s, so a display can show each of the three as it is. More frames never
+ * give a smaller number. Never refuses. */
 uint32_t amv_from_frame_count(uint64_t frames, uint32_t fps);
 
 #ifdef __cplusplus

@@ -371,7 +371,26 @@ static void others(void)
     uint64_t out[1];
     EXPECT(AMV_OK, amv_validate_movi_interleave(tags, 2, out));
     EXPECT(AMV_ERROR_ODD_CHUNK_COUNT, amv_validate_movi_interleave(tags, 1, out));
+}
+
+/* Seconds, minutes, hours; above AMV_DURATION_MAX_SECONDS no minute over 59, in a trailer too. */
+static void run_lengths(void)
+{
+    const uint32_t longest = (255 << 16) + (59 << 8) + 59;
+    uint8_t buf[AMV_PRELUDE_LEN + 8] = {0};
+    uint64_t writer[AMV_WRITER_WORDS] = AMV_FRESH_WRITER(8, 8, 1, 8000, 1);
+    uint64_t out[1], fields[AMV_PARSE_WORDS];
     EXPECT(289, amv_from_frame_count(1116, 12));
+    EXPECT(0, amv_from_frame_count(1116, 0));
+    EXPECT(longest - 1, amv_from_frame_count(AMV_DURATION_MAX_SECONDS - 1, 1));
+    EXPECT(longest, amv_from_frame_count(AMV_DURATION_MAX_SECONDS, 1));
+    EXPECT(longest, amv_from_frame_count(AMV_DURATION_MAX_SECONDS + 1, 1));
+    EXPECT(longest, amv_from_frame_count(UINT64_MAX, 1));
+    EXPECT(AMV_OK, amv_write_header(writer, buf, sizeof buf, out));
+    writer[AMV_WRITER_FRAMES] = AMV_DURATION_MAX_SECONDS + 1;
+    EXPECT(AMV_OK, amv_write_trailer(writer, buf, sizeof buf, out));
+    EXPECT(AMV_OK, amv_parse(buf, sizeof buf, true, fields));
+    EXPECT(longest, fields[AMV_PARSE_DURATION_PACKED]);
 }
 
 int main(void)
@@ -385,5 +404,6 @@ int main(void)
     check();
     texts();
     others();
+    run_lengths();
     return failures != 0;
 }

@@ -75,6 +75,16 @@ static bool open_recording(const char *name, struct recording *r)
     return true;
 }
 
+/* How long so many pictures play, in hours, minutes and seconds; without a rate there is nothing to show. The prelude of a file that is cut has
+ * another run length: none, since it comes with the trailer, or that of all the pictures there once were. */
+static void show_run_length(uint64_t frames, uint64_t fps)
+{
+    if (fps == 0)
+        return;
+    uint32_t packed = amv_from_frame_count(frames, (uint32_t)fps);
+    printf(", %" PRIu32 ":%02" PRIu32 ":%02" PRIu32, packed >> 16, packed >> 8 & 0xFF, packed & 0xFF);
+}
+
 /* Leaves of a damaged file what stands before the damage; that has a summary and an index. The summary is what the file plays. */
 static bool show_summary(struct recording *r, uint64_t counts[AMV_SUMMARY_WORDS])
 {
@@ -84,11 +94,14 @@ static bool show_summary(struct recording *r, uint64_t counts[AMV_SUMMARY_WORDS]
         r->len = (size_t)counts[AMV_PLACE];
         number = amv_summary(r->file, r->len, counts);
     }
-    if (number == AMV_OK)
-        printf("plays %" PRIu64 " pictures and %" PRIu64 " sound blocks\n", counts[AMV_SUMMARY_FRAMES], counts[AMV_SUMMARY_BLOCKS]);
-    else
+    if (number != AMV_OK) {
         show_refusal("summary", number, counts);
-    return number == AMV_OK;
+        return false;
+    }
+    printf("plays %" PRIu64 " pictures and %" PRIu64 " sound blocks", counts[AMV_SUMMARY_FRAMES], counts[AMV_SUMMARY_BLOCKS]);
+    show_run_length(counts[AMV_SUMMARY_FRAMES], r->fps);
+    putchar('\n');
+    return true;
 }
 
 /* The index has a record for each chunk that plays, and at most one more: that of a chunk in which the file ends. */

@@ -59,7 +59,8 @@ pub struct AmvHeader {
     pub flag_one: u32,
     /// 0 in a file that is strictly right.
     pub reserved_30: u32,
-    /// The run length: seconds, minutes times 256, hours times 65536.
+    /// The run length as it stands in the file: seconds, minutes times 256, hours times 65536. It is not asked about, and minutes can be over
+    /// 59 where another program, or this library up to version 0.3, has written it.
     pub duration_packed: u32,
 }
 
@@ -657,19 +658,22 @@ pub fn validate_movi_interleave(tags: &[u32]) -> Result<()> {
     answer(number, out).map(|_| ())
 }
 
-/// A run length as the prelude has it.
+/// The run length of a number of frames, as a display shows it.
 #[derive(Clone, Copy, Debug, PartialEq, Eq)]
 pub struct AmvDuration {
-    /// Below 60.
+    /// At most 59.
     pub seconds: u8,
-    /// At most 255.
+    /// At most 59.
     pub minutes: u8,
     /// At most 255.
     pub hours: u8,
 }
 
 impl AmvDuration {
-    /// The run length of a number of frames; zeros for fps 0. Never refuses.
+    /// The longest run length in seconds: 255 h 59 min 59 s.
+    pub const MAX_SECONDS: u64 = 921_599;
+
+    /// The run length of a number of frames; zeros for fps 0, and 255 h 59 min 59 s above [`Self::MAX_SECONDS`]. Never refuses.
     pub fn from_frame_count(frame_count: u64, fps: u32) -> AmvDuration {
         let [seconds, minutes, hours, _] =
             unsafe { sys::amv_from_frame_count(frame_count, fps) }.to_le_bytes();

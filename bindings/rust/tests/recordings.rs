@@ -535,12 +535,42 @@ fn the_other_calls() {
         validate_movi_interleave(&[VIDEO_CHUNK_TAG, AUDIO_CHUNK_TAG]),
         Ok(())
     );
-    assert_eq!(
-        AmvDuration::from_frame_count(1116, 12),
-        AmvDuration {
-            seconds: 33,
-            minutes: 1,
-            hours: 0
-        }
-    );
+}
+
+/// Hours, minutes and seconds, at the longest run length and above it as a display shows them.
+#[test]
+fn run_lengths_are_shown() {
+    let shown = |frames, fps| {
+        let duration = AmvDuration::from_frame_count(frames, fps);
+        (duration.hours, duration.minutes, duration.seconds)
+    };
+    let most = AmvDuration::MAX_SECONDS;
+    assert_eq!(shown(1116, 12), (0, 1, 33));
+    assert_eq!(shown(1116, 0), (0, 0, 0));
+    assert_eq!(shown(most - 1, 1), (255, 59, 58));
+    for (frames, fps) in [
+        (most, 1),
+        (most + 1, 1),
+        (12 * (most + 1), 12),
+        (u64::MAX, 1),
+    ] {
+        assert_eq!(shown(frames, fps), (255, 59, 59), "{frames} at {fps}");
+    }
+}
+
+/// A recording of 256 hours, a picture a second: it is finished, and its prelude has the longest run length.
+#[test]
+fn a_recording_of_256_hours() {
+    let frames = AmvDuration::MAX_SECONDS + 1;
+    let settings = Settings { fps: 1, ..SETTINGS };
+    let mut buf = vec![0; 324 + 8 * frames as usize];
+    let mut muxer = AmvMuxer::new(settings, &mut buf);
+    muxer.write_header().unwrap();
+    for _ in 0..frames {
+        muxer.write_packet(&[], 0).unwrap();
+    }
+    muxer.write_trailer().unwrap();
+    assert_eq!(check(muxer.file()).unwrap().frames, frames);
+    let header = AmvPrelude::parse_strict(muxer.file()).unwrap().header;
+    assert_eq!(header.duration_packed.to_le_bytes(), [59, 59, 255, 0]);
 }

@@ -324,6 +324,11 @@ fn version_and_limits_agree() {
             "const LEN: usize =",
         ),
         (
+            "AMV_DURATION_MAX_SECONDS",
+            "crates/duration/src/lib.rt",
+            "const MAX_SECONDS: u64 =",
+        ),
+        (
             "AMV_ENTRY_LEN",
             "crates/chunk_index/src/entry.rt",
             "const LEN: usize =",
