@@ -1,3 +1,4 @@
 pub mod Laws
+pub mod Signed
 pub mod Products
 pub mod Impossible
