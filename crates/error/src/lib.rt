@@ -54,6 +54,8 @@ pub enum AmvError {
     StepIndexTooLarge,
     NibblesMissing,
     SampleBufferTooShort,
+    WrongRegisterBlock,
+    UnknownCommand,
 }
 
 // What a call answers that only checks: nothing to say, or a refusal.
@@ -211,6 +213,14 @@ impl AmvError {
             },
             AmvError::SampleBufferTooShort => Refusal {
                 number: 73,
+                place: 0,
+            },
+            AmvError::WrongRegisterBlock => Refusal {
+                number: 74,
+                place: 0,
+            },
+            AmvError::UnknownCommand => Refusal {
+                number: 75,
                 place: 0,
             },
         }

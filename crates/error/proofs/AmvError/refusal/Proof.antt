@@ -140,6 +140,12 @@ enum-told-22 c = search needs
 enum-told-23 : tie.Need-enum-told-23
 enum-told-23 c = search needs
 
+enum-told-24 : tie.Need-enum-told-24
+enum-told-24 c = search needs
+
+enum-told-25 : tie.Need-enum-told-25
+enum-told-25 c = search needs
+
 returns : tie.Need-returns
 returns c = is (c .enum-told .given .1)
 
@@ -269,6 +275,12 @@ returns-42 c = is (c .enum-told22 .given .1)
 returns-43 : tie.Need-returns-43
 returns-43 c = is (c .enum-told23 .given .1)
 
+returns-44 : tie.Need-returns-44
+returns-44 c = is (c .enum-told24 .given .1)
+
+returns-45 : tie.Need-returns-45
+returns-45 c = is (c .enum-told25 .given .1)
+
 pub refusal-spec : {M : Type 1} → statement M
 refusal-spec =
     tie.close
@@ -316,6 +328,8 @@ refusal-spec =
     enum-told-21
     enum-told-22
     enum-told-23
+    enum-told-24
+    enum-told-25
     returns
     returns-2
     returns-3
@@ -358,4 +372,6 @@ refusal-spec =
     returns-40
     returns-41
     returns-42
-    returns-43)
+    returns-43
+    returns-44
+    returns-45)
