@@ -15,6 +15,7 @@ use Rattle.demuxer.specs.Head.{headAt, countOf}
 use Rattle.demuxer.specs.Packet.{Shown, packetDuration, ticks, shownOf}
 use Rattle.demuxer.specs.declared.head.Head.{Head}
 use Rattle.demuxer.specs.declared.head.Head.the-variants as head
+use Rattle.demuxer.specs.declared.packet.Packet.{Packet}
 use Rattle.demuxer.specs.declared.position.Position.{Position}
 use Rattle.demuxer.specs.declared.walker.Trailer.the-variants.{At, NotMet}
 use Rattle.demuxer.specs.declared.walker.Walker.{Walker}
@@ -46,8 +47,11 @@ abbrev pub saidRead : List ℕ → Read → Reading
 saidRead file r = record { answer = saidNext file (r .answer); walker = r .walker }
 
 -- "its payload (a part of the file)": it starts past the 8 bytes at the cursor, and the file has all of it
+abbrev pub PlacedAt : List ℕ → Walker → Packet → Type 0
+PlacedAt file w p = (p .start ≡ w .position .cursor + 8) × (p .start + p .len ≤ length file)
+
 abbrev pub Placed : List ℕ → Walker → NextPacket → Type 0
-Placed file w (next.Packet p) = (p .start ≡ w .position .cursor + 8) × (p .start + p .len ≤ length file)
+Placed file w (next.Packet p) = PlacedAt file w p
 Placed file w next.End = Unit
 Placed file w (next.Err e) = Unit
 

@@ -87,7 +87,7 @@ getElem-none [] k h = refl
 getElem-none (x ∷ l) zero h = absurd (not-suc-le-zero h)
 getElem-none (x ∷ l) (suc k) h = getElem-none l k (le-of-suc-le-suc h)
 
-none-past : (cs : List Chunk) (k : ℕ) → length cs ≤ k → getElem? (drain cs) k ≡ none
+pub none-past : (cs : List Chunk) (k : ℕ) → length cs ≤ k → getElem? (drain cs) k ≡ none
 none-past cs k h = getElem-none (drain cs) k (omega (arith, length-drain start cs))
 
 told : {a b : ReadAnswer} → readAnswer a ≡ readAnswer b → a ≡ b
