@@ -1,10 +1,10 @@
 -- What a call's number and words say is what the call by value answers: a read names its payload by where it stands and how long it is, and
 -- no refusal has the number 0. Assumes nothing.
-use mathlib.Core.Path.{_≡_, refl, sym, ap, _∙_}
+use mathlib.Core.Path.{_≡_, refl, sym, ap, subst, _∙_}
 use Prim.Native.Nat.{ℕ, _+_, _≤_}
 use mathlib.Core.Bool.{Bool, true, false, cond}
 use mathlib.Core.List.{List}
-use mathlib.Core.Option.{Option, some}
+use mathlib.Core.Option.{Option, none, some}
 use native.Mathlib.Omega.{arith}
 use borrow.Author.Tests.{le-leb, ne-eqb, leb-true}
 use lib.Dec.{leb, eqb}
@@ -15,16 +15,20 @@ use Rattle.demuxer.specs.Head.{headAt, countOf}
 use Rattle.demuxer.specs.Packet.{Shown, packetDuration, ticks, payloadOf, shownOf}
 use Rattle.demuxer.specs.Position.{inRange}
 use Rattle.demuxer.specs.Read.{ReadAnswer, packet, End, Reading, refuse, payloadAt, cutOff, readFrame, readSound, readHead, readChunk, readOf}
-use Rattle.demuxer.specs.Read as read
+use Rattle.demuxer.specs.Read as read-answer
 use Rattle.demuxer.specs.declared.head.Head.{Head}
 use Rattle.demuxer.specs.declared.head.Head.the-variants as head
 use Rattle.demuxer.specs.declared.packet.Packet.{Packet}
 use Rattle.demuxer.specs.declared.packet.PacketDuration.the-variants.{Ticks, None}
 use Rattle.demuxer.specs.declared.walker.Walker.{Walker}
-use Rattle.words.specs.Out.{OutSays, given, checked, shownDuration, readWords}
+use Rattle.demuxer.specs.Sentences.{asAnswer}
+use Rattle.recording.specs.Machine.{Call, read, seek, readAnswer, seekAnswer, call}
+use Rattle.registers.specs.Registers.{commandIn, doneOf, packetOf, steppedFrom, stepOf}
+use Rattle.seek.specs.Seek.{seekOf}
+use Rattle.words.specs.Out.{OutSays, given, checked, shownDuration, shownWords, readWords}
 use Rattle.words.specs.State.{word}
 use Rattle.capi.specs.Calls.{single}
-use Rattle.capi.specs.Lists.{answered, packetIn, readIn}
+use Rattle.capi.specs.Lists.{answered, packetIn, readIn, stepIn}
 
 -- ---- a packet, by the place and the length of its payload
 
@@ -37,7 +41,7 @@ record Named (file : List ℕ) (w : Walker) (p : Shown) : Type 0 where
 AnswerNamed : List ℕ → Walker → ReadAnswer → Type 0
 AnswerNamed file w (packet p) = Named file w p
 AnswerNamed file w End = Unit
-AnswerNamed file w (read.refused r) = Unit
+AnswerNamed file w (read-answer.refused r) = Unit
 
 -- a duration that is shown as none where it is 0
 shown-back : (n : ℕ) → ticks (packetDuration (shownDuration (ticks (packetDuration n)))) ≡ ticks (packetDuration n)
@@ -115,13 +119,61 @@ module _ (file : List ℕ) (w : Walker) where
       rw (s .number, first)
       (λ i. packet (record { stream = word (s .words i) 2; payload = payload i; stamp = word (s .words i) 5; duration = duration i }))
   read-says End n number out s = rw (s .number, s .words) refl
-  read-says (read.refused r) n number out s =
+  read-says (read-answer.refused r) n number out s =
       let d : number ≡ 0 → ⊥ = s .zero in
-      rw (ne-eqb number 0 d) (λ i. read.refused (record { number = s .number i; place = word (s .words i) 0 }))
+      rw (ne-eqb number 0 d) (λ i. read-answer.refused (record { number = s .number i; place = word (s .words i) 0 }))
 
   pub read-told : {number : ℕ} {out : List ℕ} → OutSays 7 (readWords w (readOf file w .answer)) number out
       → readIn file number out ≡ readOf file w .answer
   read-told s = read-says _ read-named _ _ s
+
+  -- ---- a step: its packet is that of its read
+
+  -- its answer as that of a read
+  asRead : Answer (Option Shown) → ReadAnswer
+  asRead (accepted none) = End
+  asRead (accepted (some p)) = packet p
+  asRead (refused r) = read-answer.refused r
+
+  read-back : (a : Answer (Option Shown)) → asAnswer (asRead a) ≡ a
+  unfolding asRead
+  read-back (accepted none) = refl
+  read-back (accepted (some p)) = refl
+  read-back (refused r) = refl
+
+  same-words : (a : Answer (Option Shown)) → given (shownWords w) a ≡ readWords w (asRead a)
+  unfolding asRead
+  same-words (accepted none) = refl
+  same-words (accepted (some p)) = refl
+  same-words (refused r) = refl
+
+  of-read : (a : ReadAnswer) → AnswerNamed file w a → AnswerNamed file w (asRead (accepted (packetOf (doneOf (readAnswer a)))))
+  unfolding asRead AnswerNamed
+  of-read (packet p) n = n
+  of-read End n = tt
+  of-read (read-answer.refused r) n = tt
+
+  of-seek : (a : Answer ℕ) → AnswerNamed file w (asRead (accepted (packetOf (doneOf (seekAnswer a)))))
+  unfolding asRead AnswerNamed
+  of-seek (accepted stamp) = tt
+  of-seek (refused r) = tt
+
+  step-named : (table block : List ℕ) → AnswerNamed file w (asRead (stepOf file table w block .answer))
+  unfolding stepOf
+  step-named table block = go (commandIn block)
+    where
+      go : (d : Answer (Option Call)) → AnswerNamed file w (asRead (steppedFrom file table w block d .answer))
+      go (accepted none) = unfold asRead AnswerNamed in tt
+      go (accepted (some read)) = unfold call in of-read (readOf file w .answer) read-named
+      go (accepted (some (seek stream request))) = unfold call in of-seek (seekOf table w stream request .answer)
+      go (refused r) = unfold asRead AnswerNamed in tt
+
+  pub step-told : (table block : List ℕ) {number : ℕ} {out : List ℕ}
+      → OutSays 7 (given (shownWords w) (stepOf file table w block .answer)) number out → stepIn file number out ≡ stepOf file table w block .answer
+  step-told table block {number} {out} s =
+      let a = stepOf file table w block .answer in
+      ap asAnswer (read-says (asRead a) (step-named table block) number out (subst (λ (d : Answer (List ℕ)). OutSays 7 d number out) (same-words a) s))
+      ∙ read-back a
 
 -- ---- a seek and a writing call
 

@@ -3,6 +3,7 @@ use mathlib.Core.Path.{_≡_, refl, sym, ap, subst, _∙_}
 use Prim.Native.Nat.{ℕ, _-_}
 use mathlib.Core.Bool.{Bool, true, false, cond}
 use mathlib.Core.List.{List, [], _∷_}
+use mathlib.Core.Option.{Option}
 use native.Mathlib.Omega.{arith}
 use lib.IntN.{ℤ}
 use lib.ListN.{length, replicate}
@@ -19,11 +20,19 @@ use Rattle.seek.specs.Seek.{Seeking, seekOf}
 use Rattle.muxer.specs.Writer.{WriteOutcome, MeetsOutcome, outcome, afterPacket, packetQuestions, packetCall}
 use Rattle.muxer.specs.declared.Writer.{Writer}
 use Rattle.muxer.specs.declared.Wrote.{Wrote}
-use Rattle.words.specs.Out.{OutSays, given, checked, unlessRefused, readWords}
-use Rattle.words.specs.State.{walkerOf, walkerWords, writerOf, writerWords, countsInto}
-use Rattle.words.proofs.Laws.{says-refused}
-use Rattle.words.proofs.States.{atCounts, counts-kept}
-use Rattle.capi.specs.Calls.{WalkerCall, nextAnswer, WriterCall}
+use Rattle.recording.specs.Machine.{Call}
+use Rattle.registers.specs.Registers.{commandIn, perform, stepped, steppedFrom, saidStep, stepOf, MeetsStep}
+use Rattle.registers.specs.Steps.{blockTold}
+use Rattle.registers.proofs.Performs.{block-told}
+use Rattle.registers.specs.declared.RegisterResult.{RegisterResult}
+use Rattle.registers.specs.declared.RegisterStep.{RegisterStep}
+use Rattle.registers.specs.declared.Told.{Told}
+use Rattle.words.specs.Out.{OutSays, given, checked, unlessRefused, shownWords, readWords}
+use Rattle.words.specs.State.{word, markOf, walkerOf, walkerWords, writerOf, writerWords, countsInto}
+use Rattle.words.proofs.Laws.{says-accepted, says-refused}
+use Rattle.words.proofs.States.{mark-back, atCounts, counts-kept}
+use Rattle.capi.specs.Calls.{WalkerCall, nextAnswer, stepAnswer, stepWalker, StepCall, WriterCall}
+use Rattle.capi.specs.Steps.{DoneInWords}
 
 -- what holds of both choices
 pub either : {A : Type 0} (P : A → Type 0) (b : Bool) (x y : A) → P x → P y → P (cond b x y)
@@ -75,6 +84,48 @@ read-gave file w e t = ap (λ q. readWords w (q .answer)) (sym e) ∙ ap (λ v. 
 pub as-requested : (table : List ℕ) (w : Walker) (stream : ℕ) (request : ℤ) {q : Seeking} → SFits w64 request
     → q ≡ seekOf table w stream (toZ w64 (ofZ w64 request)) → q ≡ seekOf table w stream request
 as-requested table w stream request f e = e ∙ ap (seekOf table w stream) (toZ-ofZ w64 request f)
+
+-- ---- a step
+
+module _ (file table ws block : List ℕ) where
+  pub steps-illegal : walkerOf ws ≡ refused (numbered 1 0) → StepCall file table ws block 1 (0 ∷ replicate 6 0) ws block
+  steps-illegal e =
+      record {
+        call = walks-illegal 7 (stepAnswer file table block) (stepWalker file table block) ws e;
+        block = illegal-leaves e block (λ w. stepOf file table w block .block);
+      }
+
+  -- by its result, which is known
+  pub steps : {w : Walker} {r : RegisterStep} {v : RegisterResult} {number : ℕ} {out words after : List ℕ} → walkerOf ws ≡ accepted w
+      → MeetsStep file table w block r after → r .result ≡ v → words ≡ walkerWords (r .walker)
+      → OutSays 7 (given (shownWords w) (saidStep file v)) number out → StepCall file table ws block number out words after
+  steps {w} {number = number} {out = out} e m t o s =
+      record {
+        call =
+            walks 7 (stepAnswer file table block) (stepWalker file table block) ws e
+            (subst (λ (a : Answer (List ℕ)). OutSays 7 a number out) (sym (gave (saidStep file) (shownWords w) (m .answer) t)) s)
+            (o ∙ ap walkerWords (m .walker));
+        block = m .block ∙ legal-leaves e block (λ w. stepOf file table w block .block);
+      }
+
+  -- by its command that is performed, and by the block that is written of what is told and of the walker's marks
+  pub steps-done : {w : Walker} (c : Option Call) {t : Told} {out words after : List ℕ} → walkerOf ws ≡ accepted w → commandIn block ≡ accepted c
+      → DoneInWords w (perform file table w c) t out words → after ≡ blockTold block t (markOf (word words 4)) (markOf (word words 5))
+      → StepCall file table ws block 0 out words after
+  unfolding stepOf
+  steps-done {w} c e q d b =
+      let p = perform file table w c in
+      let k : stepOf file table w block ≡ stepped block p = ap (steppedFrom file table w block) q in
+      let end = ap (λ (l : List ℕ). markOf (word l 4)) (d .walker) ∙ mark-back (p .walker .end) in
+      let cut = ap (λ (l : List ℕ). markOf (word l 5)) (d .walker) ∙ mark-back (p .walker .cut) in
+      record {
+        call =
+            walks 7 (stepAnswer file table block) (stepWalker file table block) ws e
+            (says-accepted 7 (ap (λ s. given (shownWords w) (s .answer)) k) (d .words)) (d .walker ∙ ap (λ s. walkerWords (s .walker)) (sym k));
+        block =
+            b ∙ block-told block p (d .tells) end cut ∙ ap (λ s. s .block) (sym k)
+            ∙ legal-leaves e block (λ w. stepOf file table w block .block);
+      }
 
 -- ---- a writing call
 

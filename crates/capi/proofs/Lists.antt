@@ -4,9 +4,10 @@ use mathlib.Core.Path.{_≡_, refl, sym, ap, subst, _∙_}
 use Prim.Native.Nat.{ℕ, _+_}
 use mathlib.Core.Bool.{Bool, true, false, cond}
 use mathlib.Core.List.{List, [], List·Memᴰ, List·Memᴰ·not-nil}
+use mathlib.Core.Option.{Option, none, some}
 use native.Mathlib.Omega.{arith}
 use borrow.Author.Tests.{ne-eqb, leb-true}
-use lib.Dec.{leb}
+use lib.Dec.{leb, eqb}
 use lib.IntN.{ℤ}
 use lib.ListN.{length, take}
 use Rattle.fields.specs.Capped.{u32Max}
@@ -35,13 +36,17 @@ use Rattle.recording.specs.WriteLists.{WriteCall, header, packet, trailer, writ
 use Rattle.recording.specs.Lists.{CallsRan, no-call, one-more, Calling, Lent, Writing, acceptedBy}
 use Rattle.recording.proofs.Numbers.{Numbered, ask-numbered, then-numbered, ReadNumbered, read-numbered, seek-numbered, step-numbered}
 use Rattle.recording.proofs.Runs.{every-list}
-use Rattle.words.specs.Out.{OutSays, outOf, checked, unlessRefused, readWords}
+use Rattle.registers.specs.Registers.{byte, commandIn, steppedFrom, stepOf}
+use Rattle.registers.specs.Lists.{StepAnswer, SteppingAs}
+use Rattle.registers.proofs.Lists.{every-step}
+use Rattle.words.specs.Out.{OutSays, outOf, checked, unlessRefused, shownWords, readWords}
 use Rattle.words.specs.State.{word, notMet, trailerOf, trailerWord, walkerLegal, walkerOf, walkerWords, settingsLegal, writerLegal, writerOf, writerWords}
 use Rattle.words.proofs.States.{words-stand}
-use Rattle.capi.specs.Calls.{single, WalkerCall, nextAnswer, nextWalker, seekAnswer, seekWalker, writerAfterCall, bufferAfterCall}
-use Rattle.capi.specs.Lists.{answered, WalkerStep, reads, seeks, step, WriterStep, writes, startsWith, ThroughWords}
+use Rattle.capi.specs.Calls.{single, WalkerCall, nextAnswer, nextWalker, seekAnswer, seekWalker, stepAnswer, stepWalker, blockAfterCall}
+use Rattle.capi.specs.Calls.{writerAfterCall, bufferAfterCall}
+use Rattle.capi.specs.Lists.{answered, WalkerStep, reads, seeks, RegisterStep, steps, step, WriterStep, writes, startsWith, ThroughWords}
 use Rattle.capi.proofs.Laws.{either}
-use Rattle.capi.proofs.Answers.{read-told, seek-told, write-told}
+use Rattle.capi.proofs.Answers.{read-told, seek-told, step-told, write-told}
 
 -- ---- a walker that its words spell
 
@@ -100,18 +105,45 @@ module _ {n : ℕ} (answer : Walker → Answer (List ℕ)) (next : Walker → Wa
   walker-left : after ≡ walkerWords (next w)
   walker-left = h .walker ∙ ap (λ d. unlessRefused ws d (λ w. walkerWords (next w))) (spells ws w i)
 
+-- they spell the walker after a call too: a seek leaves the trailer, and a read puts it where it can be spelt
+call-spelt : (file table : List ℕ) (w : Walker) → Spelt (w .trailer) → (c : Call) → Spelt (call file table w c .walker .trailer)
+unfolding call
+call-spelt file table w s read = next-spelt file w s
+call-spelt file table w s (seek stream request) = subst Spelt (sym (seek-sentences .trailer-stays table w stream request)) s
+
+-- and after a step, of whatever block: one that is refused or has no command leaves the walker
+step-spelt : (file table : List ℕ) (w : Walker) → Spelt (w .trailer) → (block : List ℕ) → Spelt (stepOf file table w block .walker .trailer)
+unfolding stepOf
+step-spelt file table w s block = go (commandIn block)
+  where
+    go : (a : Answer (Option Call)) → Spelt (steppedFrom file table w block a .walker .trailer)
+    go (refused r) = s
+    go (accepted none) = s
+    go (accepted (some c)) = call-spelt file table w s c
+
 calling : (file table : List ℕ) → Calling Stands (WalkerStep file table) file table
 unfolding call
 calling file table s c answer next w i (reads number out h) = (
   ap readAnswer (read-told file w (walker-says (nextAnswer file) (nextWalker file) w i h)),
-  (walker-left (nextAnswer file) (nextWalker file) w i h, next-spelt file w (i .1)),
+  (walker-left (nextAnswer file) (nextWalker file) w i h, call-spelt file table w (i .1) read),
 )
 calling file table s (seek stream request) answer next w i (seeks number out h) = (
   ap machine.seekAnswer (seek-told _ (walker-says (seekAnswer table stream request) (seekWalker table stream request) w i h)),
   (
     walker-left (seekAnswer table stream request) (seekWalker table stream request) w i h,
-    subst Spelt (sym (seek-sentences .trailer-stays table w stream request)) (i .1),
+    call-spelt file table w (i .1) (seek stream request),
   ),
+)
+
+-- a step
+stepping : (file table : List ℕ) → SteppingAs Stands (RegisterStep file table) file table
+stepping file table s block answer next w i (steps number out h) = (
+  (λ j.
+      record {
+        answer = step-told file w table block (walker-says (stepAnswer file table block) (stepWalker file table block) w i (h .call)) j;
+        block = (h .block ∙ ap (λ d. unlessRefused block d (λ w. stepOf file table w block .block)) (spells s w i)) j;
+      }),
+  (walker-left (stepAnswer file table block) (stepWalker file table block) w i (h .call), step-spelt file table w (i .1) block),
 )
 
 -- ---- a writer whose settings are in their fields' ranges
@@ -237,6 +269,36 @@ walker-runs file table ws (seek stream request) = (
       }),
 )
 
+-- 74 and 75 are no 0
+step-answered : (file table : List ℕ) (w : Walker) (block : List ℕ) → Numbered (stepOf file table w block .answer)
+unfolding stepOf commandIn
+step-answered file table w block =
+    go (commandIn block) (ask-numbered (eqb (length block) 16) 74 0 _ (omega arith) (ask-numbered (leb (byte block 0) 3) 75 0 _ (omega arith) tt))
+  where
+    go : (d : Answer (Option Call)) → Numbered d → Numbered (steppedFrom file table w block d .answer)
+    go (accepted c) n = tt
+    go (refused r) n = n
+
+step-runs : (file table ws block : List ℕ) → (answer : StepAnswer) × (next : List ℕ) × RegisterStep file table ws block answer next
+step-runs file table ws block = (
+  _,
+  _,
+  steps {after = blockAfterCall file table ws block} _ _
+      (record {
+        call =
+            record {
+              says =
+                  said-of 7 _
+                  (then-numbered (walkerOf ws) (stepAnswer file table block) (walker-numbered ws)
+                  (λ w.
+                  then-numbered (stepOf file table w block .answer) (λ p. accepted (shownWords w p)) (step-answered file table w block)
+                  (λ _. tt)));
+              walker = refl;
+            };
+        block = refl;
+      }),
+)
+
 writer-runs : (s : Lent (List ℕ)) (c : WriteCall) → (answer : Answer Unit) × (next : Lent (List ℕ)) × WriterStep s c answer next
 writer-runs s c = (
   _,
@@ -262,7 +324,13 @@ through-words =
           every-list .reads-and-seeks Stands (WalkerStep file table) file cs all fin table own (calling file table) _ calls said last
           (refl, refl) ran in
           (a .0, (spells last (a .0) (a .1 .0), a .1 .1));
+      register-steps = λ file cs all fin table own blocks said last ran.
+          let a =
+          every-step (List ℕ) Stands (RegisterStep file table) file cs all fin table own (stepping file table) _ blocks said last
+          (refl, refl) ran in
+          (a .0, (spells last (a .0) (a .1 .0), a .1 .1));
       writing = written;
       walkers-run = λ file table ws calls. every-list .runs (WalkerStep file table) (walker-runs file table) ws calls;
+      steps-run = λ file table ws blocks. every-list .runs (RegisterStep file table) (step-runs file table) ws blocks;
       writers-run = λ s calls. every-list .runs WriterStep writer-runs s calls;
     }

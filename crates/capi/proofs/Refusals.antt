@@ -2,6 +2,7 @@
 use mathlib.Core.Path.{_≡_, refl, ap, _∙_}
 use Prim.Native.Nat.{ℕ, _*_}
 use mathlib.Core.List.{List}
+use mathlib.Core.Option.{Option}
 use lib.Dec.{leb}
 use lib.IntN.{ℤ}
 use lib.ListN.{length}
@@ -23,11 +24,13 @@ use Rattle.page.specs.Page.{printOf}
 use Rattle.page.proofs.Sentences.{page-sentences}
 use Rattle.sound.specs.Sound.{decodeOf}
 use Rattle.sound.proofs.Sentences.{sound-sentences}
+use Rattle.recording.specs.Machine.{Call}
 use Rattle.recording.specs.WriteLists.{WriteCall, header, packet, trailer, writeStep}
-use Rattle.words.specs.Out.{given, checked, unlessRefused, readWords}
+use Rattle.registers.specs.Registers.{commandIn, steppedFrom, stepOf}
+use Rattle.words.specs.Out.{given, checked, unlessRefused, shownWords, readWords}
 use Rattle.words.specs.State.{walkerOf, walkerWords, writerOf, writerWords}
 use Rattle.words.proofs.States.{words-stand}
-use Rattle.capi.specs.Calls.{single, nextAnswer, nextWalker, seekAnswer, seekWalker}
+use Rattle.capi.specs.Calls.{single, nextAnswer, nextWalker, seekAnswer, seekWalker, stepAnswer, stepWalker}
 use Rattle.capi.specs.Lists.{step}
 use Rattle.capi.specs.Refusals.{RefusalsKeep}
 
@@ -61,6 +64,17 @@ seek-keeps : (table : List ℕ) (stream : ℕ) (request : ℤ) (w : Walker) (r :
     → seekWalker table stream request w ≡ w
 seek-keeps table stream request w r h = seek-sentences .gives-back table stream request w r (count-refused (seekOf table w stream request .answer) r h)
 
+-- a step: once its command is taken from the block it is accepted
+step-keeps : (file table block : List ℕ) (w : Walker) (r : Refusal) → stepAnswer file table block w ≡ refused r
+    → (stepOf file table w block .walker ≡ w) × (stepOf file table w block .block ≡ block)
+unfolding stepOf
+step-keeps file table block w r = go (commandIn block)
+  where
+    go : (a : Answer (Option Call)) → given (shownWords w) (steppedFrom file table w block a .answer) ≡ refused r
+        → (steppedFrom file table w block a .walker ≡ w) × (steppedFrom file table w block a .block ≡ block)
+    go (accepted c) h = never h
+    go (refused q) h = (refl, refl)
+
 -- a writing call
 asCheck : Answer (List ℕ) → Answer Unit
 asCheck (accepted words) = accepted tt
@@ -86,6 +100,12 @@ walker-keeps : (ws : List ℕ) (answer : Walker → Answer (List ℕ)) (next : W
 walker-keeps ws answer next r l k (refused q) e h = refl
 walker-keeps ws answer next r l k (accepted w) e h = ap walkerWords (k w h) ∙ words-stand .walker-kept ws w l e
 
+block-keeps : (block : List ℕ) (answer : Walker → Answer (List ℕ)) (after : Walker → List ℕ) (r : Refusal)
+    → ((w : Walker) → answer w ≡ refused r → after w ≡ block) → (d : Answer Walker) → andThen d answer ≡ refused r
+    → unlessRefused block d after ≡ block
+block-keeps block answer after r k (refused q) h = refl
+block-keeps block answer after r k (accepted w) h = k w h
+
 writer-keeps : (buf ws : List ℕ) (c : WriteCall) (r : Refusal) → length ws ≡ 9 → (d : Answer Writer) → writerOf ws ≡ d
     → andThen d (λ w. checked (step buf c w .answer)) ≡ refused r
     → (unlessRefused ws d (λ w. writerWords (step buf c w .writer)) ≡ ws) × (unlessRefused buf d (λ w. step buf c w .buffer) ≡ buf)
@@ -106,4 +126,10 @@ refusals-keep =
           walker-keeps ws (seekAnswer table stream request) (seekWalker table stream request) r l (λ w. seek-keeps table stream request w r)
           (walkerOf ws) refl h;
       write = λ buf ws c r l h. writer-keeps buf ws c r l (writerOf ws) refl h;
+      step =
+          λ file table ws block r l h. (
+            walker-keeps ws (stepAnswer file table block) (stepWalker file table block) r l (λ w h. step-keeps file table block w r h .0) (walkerOf ws) refl h,
+            block-keeps block (stepAnswer file table block) (λ w. stepOf file table w block .block) r (λ w h. step-keeps file table block w r h .1)
+                (walkerOf ws) h,
+          );
     }

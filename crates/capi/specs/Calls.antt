@@ -18,7 +18,8 @@ use Rattle.finished.specs.Check.{checkOf}
 use Rattle.page.specs.Page.{printOf}
 use Rattle.sound.specs.Sound.{decodeOf}
 use Rattle.finished.specs.declared.Totals.{Totals}
-use Rattle.words.specs.Out.{OutSays, given, checked, unlessRefused, readWords, preludeWords}
+use Rattle.registers.specs.Registers.{stepOf}
+use Rattle.words.specs.Out.{OutSays, given, checked, unlessRefused, shownWords, readWords, preludeWords}
 use Rattle.words.specs.State.{markWord, walkerOf, walkerWords, writerOf, writerWords}
 
 -- one number
@@ -77,6 +78,22 @@ seekAnswer table stream request w = given single (seekOf table w stream request 
 
 abbrev pub seekWalker : List ℕ → ℕ → ℤ → Walker → Walker
 seekWalker table stream request w = seekOf table w stream request .walker
+
+-- the packet of a step's read, or none
+abbrev pub stepAnswer : List ℕ → List ℕ → List ℕ → Walker → Answer (List ℕ)
+stepAnswer file table block w = given (shownWords w) (stepOf file table w block .answer)
+
+abbrev pub stepWalker : List ℕ → List ℕ → List ℕ → Walker → Walker
+stepWalker file table block w = stepOf file table w block .walker
+
+-- the block after a step
+abbrev pub blockAfterCall : List ℕ → List ℕ → List ℕ → List ℕ → List ℕ
+blockAfterCall file table ws block = unlessRefused block (walkerOf ws) (λ w. stepOf file table w block .block)
+
+-- what a step over a walker's words returns and leaves, by the block before it: `out` and the walker's words, and the block after it
+pub record StepCall (file table ws before : List ℕ) (returned : ℕ) (out wsAfter after : List ℕ) : Type 0 where
+  pub call : WalkerCall 7 (stepAnswer file table before) (stepWalker file table before) ws returned out wsAfter
+  pub block : after ≡ blockAfterCall file table ws before
 
 -- the writer's words and the buffer after a writing call
 abbrev pub writerAfterCall : (Writer → WriteOutcome) → List ℕ → List ℕ

@@ -4,14 +4,16 @@ use mathlib.Core.Path.{_≡_}
 use Prim.Native.Nat.{ℕ}
 use mathlib.Core.Bool.{cond}
 use mathlib.Core.List.{List, [], _∷_}
+use mathlib.Core.Option.{Option}
 use lib.Dec.{eqb}
 use lib.IntN.{ℤ}
 use lib.ListN.{take}
 use Rattle.error.specs.Answer.{Answer, accepted, numbered, ask}
 use Rattle.fields.specs.Le.{Bytes}
-use Rattle.demuxer.specs.Packet.{packetDuration, shownOf}
+use Rattle.demuxer.specs.Packet.{Shown, packetDuration, shownOf}
 use Rattle.demuxer.specs.Read.{ReadAnswer, packet, End}
 use Rattle.demuxer.specs.Read as demuxer
+use Rattle.demuxer.specs.Sentences.{asAnswer}
 use Rattle.demuxer.specs.declared.packet.Packet.{Packet}
 use Rattle.demuxer.specs.declared.walker.Walker.{Walker}
 use Rattle.walk.specs.Chunks.{Chunk}
@@ -24,8 +26,9 @@ use Rattle.recording.specs.Machine.{Call, read, seek, CallAnswer, readAnswer, A
 use Rattle.recording.specs.Machine as machine
 use Rattle.recording.specs.WriteLists.{WriteCall, writeStep, WritesAgreed}
 use Rattle.recording.specs.Lists.{CallsRan, Lent, acceptedBy}
+use Rattle.registers.specs.Lists.{StepAnswer, StepsAgreed}
 use Rattle.words.specs.State.{word, walkerOf, walkerWords, writerWords}
-use Rattle.capi.specs.Calls.{WalkerCall, nextAnswer, nextWalker, seekAnswer, seekWalker, WriterCall}
+use Rattle.capi.specs.Calls.{WalkerCall, nextAnswer, nextWalker, seekAnswer, seekWalker, StepCall, WriterCall}
 
 -- ---- what a call says to a caller, in the terms of include/amv.h
 
@@ -43,6 +46,10 @@ readIn file number out =
     (cond (eqb (word out 1) 0) End (packet (shownOf file (packetIn out))))
     (demuxer.refused (numbered number (word out 0)))
 
+-- of a step: "as amv_next_packet's where this step's read gave a packet, else all 0"
+abbrev pub stepIn : List ℕ → ℕ → List ℕ → Answer (Option Shown)
+stepIn file number out = asAnswer (readIn file number out)
+
 -- ---- one call: what its function's contract says that it returns and leaves, and what that says
 
 pub data WalkerStep (file table : List ℕ) : List ℕ → Call → CallAnswer → List ℕ → Type 0 where
@@ -52,6 +59,11 @@ pub data WalkerStep (file table : List ℕ) : List ℕ → Call → CallAnswer �
   seeks : {ws next : List ℕ} {stream : ℕ} {request : ℤ} (number : ℕ) (out : List ℕ)
       → WalkerCall 2 (seekAnswer table stream request) (seekWalker table stream request) ws number out next
       → WalkerStep file table ws (seek stream request) (machine.seekAnswer (answered number out (word out 1))) next
+
+-- a step of a register block: what it returns says, and the block as it leaves it
+pub data RegisterStep (file table : List ℕ) : List ℕ → List ℕ → StepAnswer → List ℕ → Type 0 where
+  steps : {ws next before after : List ℕ} (number : ℕ) (out : List ℕ) → StepCall file table ws before number out next after
+      → RegisterStep file table ws before (record { answer = stepIn file number out; block = after }) next
 
 -- a writing call on the buffer as it is
 abbrev pub step : List ℕ → WriteCall → Writer → WriteOutcome
@@ -79,6 +91,11 @@ pub record ThroughWords : Type 0 where
       → (calls : List Call) (said : List CallAnswer) (last : List ℕ)
       → CallsRan (WalkerStep file table) (walkerWords demuxer.fresh) calls said last
       → (w : Walker) × ((walkerOf last ≡ accepted w) × Agreed file cs calls w said)
+  -- and of every list of steps, with any block at each of them
+  pub register-steps : (file : List ℕ) (cs : List Chunk) → Bytes file → Finished file cs → (table : List ℕ) → OwnIndex file table
+      → (blocks : List (List ℕ)) (said : List StepAnswer) (last : List ℕ)
+      → CallsRan (RegisterStep file table) (walkerWords demuxer.fresh) blocks said last
+      → (w : Walker) × ((walkerOf last ≡ accepted w) × StepsAgreed file cs blocks w said)
   -- "The file is the first writer[7] bytes of the buffer." Of settings outside their fields' ranges no call is accepted.
   pub writing : (s : Settings) (buf : List ℕ) (calls : List WriteCall) (said : List (Answer Unit)) (last : Lent (List ℕ))
       → CallsRan WriterStep (startsWith s buf) calls said last
@@ -86,5 +103,7 @@ pub record ThroughWords : Type 0 where
   -- and every list of calls runs, from any words
   pub walkers-run : (file table ws : List ℕ) (calls : List Call)
       → (said : List CallAnswer) × (last : List ℕ) × CallsRan (WalkerStep file table) ws calls said last
+  pub steps-run : (file table ws : List ℕ) (blocks : List (List ℕ))
+      → (said : List StepAnswer) × (last : List ℕ) × CallsRan (RegisterStep file table) ws blocks said last
   pub writers-run : (s : Lent (List ℕ)) (calls : List WriteCall)
       → (said : List (Answer Unit)) × (last : Lent (List ℕ)) × CallsRan WriterStep s calls said last

@@ -12,10 +12,11 @@ use Rattle.sound.specs.Sound.{decodeOf}
 use Rattle.recording.specs.WriteLists.{WriteCall}
 use Rattle.words.specs.Out.{checked}
 use Rattle.words.specs.State.{walkerOf, writerOf}
-use Rattle.capi.specs.Calls.{indexAnswer, pageAnswer, samplesAnswer, walkerAfterCall, nextAnswer, nextWalker, seekAnswer, seekWalker, writerAfterCall, bufferAfterCall}
+use Rattle.capi.specs.Calls.{indexAnswer, pageAnswer, samplesAnswer, walkerAfterCall, nextAnswer, nextWalker, seekAnswer, seekWalker}
+use Rattle.capi.specs.Calls.{stepAnswer, stepWalker, blockAfterCall, writerAfterCall, bufferAfterCall}
 use Rattle.capi.specs.Lists.{step}
 
--- every word of the state, every byte of the table, page or buffer and every sample is as it was
+-- every word of the state, every byte of the table, page, block or buffer and every sample is as it was
 pub record RefusalsKeep : Type 0 where
   pub index : (file table : List ℕ) (r : Refusal) → indexAnswer file table ≡ refused r → buildOf file table .table ≡ table
   pub page : (table page : List ℕ) (r : Refusal) → pageAnswer table page ≡ refused r → printOf table page .page ≡ page
@@ -28,3 +29,6 @@ pub record RefusalsKeep : Type 0 where
   pub write : (buf ws : List ℕ) (c : WriteCall) (r : Refusal) → length ws ≡ 9
       → andThen (writerOf ws) (λ w. checked (step buf c w .answer)) ≡ refused r
       → (writerAfterCall (step buf c) ws ≡ ws) × (bufferAfterCall (step buf c) ws buf ≡ buf)
+  -- of a step: 74 and 75 "change no byte", and 1 none either
+  pub step : (file table ws block : List ℕ) (r : Refusal) → length ws ≡ 7 → andThen (walkerOf ws) (stepAnswer file table block) ≡ refused r
+      → (walkerAfterCall (stepWalker file table block) ws ≡ ws) × (blockAfterCall file table ws block ≡ block)

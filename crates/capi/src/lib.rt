@@ -5,6 +5,7 @@ use chunk_index::index::build_chunk_index;
 use chunk_index::summary::SummaryResult;
 use chunk_index::summary::summary;
 use demuxer::walker::NextPacket;
+use demuxer::walker::Walker;
 use duration::AmvDuration;
 use error::AmvResult;
 use finished::CheckResult;
@@ -13,6 +14,12 @@ use page::PageResult;
 use page::print_index;
 use prelude::prelude::AmvPrelude;
 use prelude::prelude::AmvPreludeResult;
+use registers::Command;
+use registers::CommandResult;
+use registers::Told;
+use registers::command_in;
+use registers::signed;
+use registers::write_block;
 use seek::SeekResult;
 use seek::seek_to_via_index;
 use sound::SamplesResult;
@@ -31,6 +38,7 @@ use words::writer::writer_of;
 use words::writer::writer_words;
 ghost use mathlib.Core.Path.{_≡_};
 ghost use mathlib.Core.Bool.{cond};
+ghost use Rattle.error.specs.Answer.{accepted};
 ghost use Rattle.chunk.specs.Interleave.{interleave};
 ghost use Rattle.duration.specs.Duration.{packedOf, runLength};
 ghost use Rattle.prelude.specs.Prelude.{saidPrelude, parseOf, strictOf};
@@ -38,9 +46,13 @@ ghost use Rattle.chunk_index.specs.Index.{buildOf};
 ghost use Rattle.page.specs.Page.{printOf};
 ghost use Rattle.sound.specs.Sound.{decodeOf};
 ghost use Rattle.muxer.specs.Writer.{headerCall, packetCall, trailerCall};
+ghost use Rattle.registers.specs.Registers as registers;
+ghost use Rattle.registers.specs.Steps.{callOf};
 ghost use Rattle.words.specs.Out.{OutSays, checked};
+ghost use Rattle.words.specs.State.{walkerOf};
 ghost use Rattle.capi.specs.Calls.{summaryAnswer, checkAnswer, indexAnswer, pageAnswer, parseAnswer, samplesAnswer};
-ghost use Rattle.capi.specs.Calls.{WalkerCall, nextAnswer, nextWalker, seekAnswer, seekWalker, WriterCall};
+ghost use Rattle.capi.specs.Calls.{WalkerCall, nextAnswer, nextWalker, seekAnswer, seekWalker, StepCall, WriterCall};
+ghost use Rattle.capi.specs.Steps.{DoneInWords, Performs, readPerformed, seekPerformed};
 
 // The number of a call whose state's words are not all in their fields' ranges.
 const ILLEGAL_STATE: u32 = 1;
@@ -247,6 +259,99 @@ pub extern "C" fn amv_seek_to_via_index(
         SeekResult::Err(e) => {
             *out = [e.place(), 0];
             e.number()
+        }
+    }
+}
+
+// The read of a step, by amv_next_packet: what the block is to tell of it, with the packet's words in `out`, or 0 in each where it gave none. It
+// refuses nothing: where the read is refused, that is told.
+fn read_step(file: &[u8], walker: &mut [u64; 7], out: &mut [u64; 7]) -> Told
+    ensures { λ r. ⌜ Performs (readPerformed (now (file .entry))) (now (walker .entry)) r (now (out .exit)) (now (walker .exit)) ⌝ }
+{
+    let number = amv_next_packet(file, walker, out);
+    if number != 0 {
+        *out = [0; 7];
+        return Told::Refused(number as u8);
+    }
+    if out[1] == 0 {
+        return Told::Nothing;
+    }
+    Told::Gave(out[5])
+}
+
+// The seek of a step, by amv_seek_to_via_index: what the block is to tell of it, with 0 in each word of `out`. It refuses nothing: where the seek is
+// refused, that is told.
+fn seek_step(
+    table: &[u8],
+    walker: &mut [u64; 7],
+    stream: u32,
+    request: u64,
+    out: &mut [u64; 7],
+) -> Told
+    ensures { λ r. ⌜ Performs (seekPerformed (now (table .entry)) stream request)
+        (now (walker .entry)) r (now (out .exit)) (now (walker .exit)) ⌝ }
+{
+    *out = [0; 7];
+    let mut sought = [0u64; 2];
+    let number = amv_seek_to_via_index(table, walker, stream, signed(request), &mut sought);
+    if number != 0 {
+        return Told::Refused(number as u8);
+    }
+    Told::Went(sought[1])
+}
+
+// Performs the command of a step on a walker and its words, through the calls above, so that what a read or a seek does is the same code in a step.
+// It refuses nothing: where the read or seek is refused, that is told.
+fn perform(
+    file: &[u8],
+    table: &[u8],
+    state: Walker,
+    walker: &mut [u64; 7],
+    command: Command,
+    out: &mut [u64; 7],
+) -> Told
+    requires { ⌜ walkerOf (now walker) ≡ accepted state ⌝ }
+    ensures { λ r. ⌜ DoneInWords state (registers.perform (now (file .entry)) (now (table .entry)) state (callOf command))
+        r (now (out .exit)) (now (walker .exit)) ⌝ }
+{
+    match command {
+        Command::None => {
+            *walker = walker_words(state);
+            *out = [0; 7];
+            Told::Nothing
+        }
+        Command::Read => read_step(file, walker, out),
+        Command::Seek(stream, request) => seek_step(table, walker, stream, request, out),
+    }
+}
+
+// A step of the register block: performs the command in it on the walker, by the file or by the table, and writes the block anew; gives the packet
+// that its read gave, or none. A read or seek that is refused is told in the block alone. Refuses with 1, 74 and 75.
+#[no_mangle]
+pub extern "C" fn amv_register_step(
+    file: &[u8],
+    table: &[u8],
+    walker: &mut [u64; 7],
+    block: &mut [u8],
+    out: &mut [u64; 7],
+) -> u32
+    ensures { λ r. ⌜ StepCall (now (file .entry)) (now (table .entry)) (now (walker .entry)) (now (block .entry))
+        r (now (out .exit)) (now (walker .exit)) (now (block .exit)) ⌝ }
+{
+    let WalkerState::Legal(state) = walker_of(*walker) else {
+        *out = [0; 7];
+        return ILLEGAL_STATE;
+    };
+    match command_in(block) {
+        CommandResult::Err(e) => {
+            *walker = walker_words(state);
+            *out = [e.place(), 0, 0, 0, 0, 0, 0];
+            e.number()
+        }
+        CommandResult::Ok(command) => {
+            let told = perform(file, table, state, walker, command, out);
+            write_block(block, told, walker[4] == 1, walker[5] == 1);
+            0
         }
     }
 }

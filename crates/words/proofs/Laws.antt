@@ -2,6 +2,7 @@
 use mathlib.Core.Path.{_≡_, sym, ap, subst, _∙_}
 use Prim.Native.Nat.{ℕ, _-_}
 use mathlib.Core.List.{List, _∷_}
+use mathlib.Core.Option.{some}
 use lib.ListN.{replicate}
 use Rattle.error.specs.Answer.{Answer, accepted, refused, numberOf}
 use Rattle.error.specs.Refusal.{refusalOf}
@@ -9,13 +10,11 @@ use Rattle.error.specs.declared.Refusal.{Refusal}
 use Rattle.error.specs.declared.AmvError.{AmvError}
 use Rattle.error.proofs.Numbers.{never-zero}
 use Rattle.demuxer.specs.Packet.{shownOf, ticks}
-use Rattle.demuxer.specs.Read.{Placed, packet}
+use Rattle.demuxer.specs.Read.{PlacedAt}
 use Rattle.demuxer.proofs.Bodies.{length-payload}
 use Rattle.demuxer.specs.declared.packet.Packet.{Packet}
 use Rattle.demuxer.specs.declared.walker.Walker.{Walker}
-use Rattle.demuxer.specs.declared.walker.NextPacket.{NextPacket}
-use Rattle.demuxer.specs.declared.walker.NextPacket.the-variants as next
-use Rattle.words.specs.Out.{OutSays, Accepted, outOf, packetWords, readWords}
+use Rattle.words.specs.Out.{OutSays, Accepted, outOf, packetWords, shownWords}
 
 -- ---- what a call says
 
@@ -44,11 +43,7 @@ says-error n e a p q = says-refused n a p q (never-zero e)
 -- ---- a packet
 
 -- where a packet's payload stands, and how long it is
-pub packet-placed : (file : List ℕ) (w : Walker) (p : Packet) {answer : NextPacket} → answer ≡ next.Packet p → Placed file w answer
-    → accepted (packetWords (p .stream) (p .start) (p .len) (p .stamp) (ticks (p .duration))) ≡ readWords w (packet (shownOf file p))
+pub packet-placed : (file : List ℕ) (w : Walker) (p : Packet) → PlacedAt file w p
+    → packetWords (p .stream) (p .start) (p .len) (p .stamp) (ticks (p .duration)) ≡ shownWords w (some (shownOf file p))
 unfolding shownOf
-packet-placed file w p t h = go (subst (λ (v : NextPacket). Placed file w v) t h)
-  where
-    go : Placed file w (next.Packet p)
-        → accepted (packetWords (p .stream) (p .start) (p .len) (p .stamp) (ticks (p .duration))) ≡ readWords w (packet (shownOf file p))
-    go (s, l) = rw (length-payload file p l, s)
+packet-placed file w p (s, l) = rw (length-payload file p l, s)

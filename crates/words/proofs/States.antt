@@ -66,7 +66,7 @@ trailer-kept n = go (eqb n notMet) refl
     go true e = rw e (sym (eqb-true n notMet e))
     go false e = rw e
 
-mark-back : (mark : Bool) → markOf (markWord mark) ≡ mark
+pub mark-back : (mark : Bool) → markOf (markWord mark) ≡ mark
 mark-back true = refl
 mark-back false = refl
 

@@ -5,6 +5,7 @@ use mathlib.Core.List.{List, [], _∷_}
 use mathlib.Core.Option.{Option, none, some}
 use lib.ListN.{length, replicate}
 use Rattle.error.specs.Answer.{Answer, accepted, refused, numberOf, andThen}
+use Rattle.demuxer.specs.Packet.{Shown}
 use Rattle.demuxer.specs.Read.{ReadAnswer, packet, End}
 use Rattle.demuxer.specs.Read as read
 use Rattle.demuxer.specs.declared.walker.Walker.{Walker}
@@ -47,10 +48,15 @@ shownDuration none = 0
 abbrev pub packetWords : ℕ → ℕ → ℕ → ℕ → Option ℕ → List ℕ
 packetWords stream start len stamp duration = 1 ∷ stream ∷ start ∷ len ∷ stamp ∷ shownDuration duration ∷ []
 
--- what a read gives: a packet's words, or zeros for End. The payload starts past the 8 bytes at the cursor.
+-- the packet that a read or a step gave: its words, or zeros for none. The payload starts past the 8 bytes at the cursor.
+abbrev pub shownWords : Walker → Option Shown → List ℕ
+shownWords w (some p) = packetWords (p .stream) (w .position .cursor + 8) (length (p .payload)) (p .stamp) (p .duration)
+shownWords w none = replicate 6 0
+
+-- what a read gives: a packet, or none for End
 abbrev pub readWords : Walker → ReadAnswer → Answer (List ℕ)
-readWords w (packet p) = accepted (packetWords (p .stream) (w .position .cursor + 8) (length (p .payload)) (p .stamp) (p .duration))
-readWords w End = accepted (replicate 6 0)
+readWords w (packet p) = accepted (shownWords w (some p))
+readWords w End = accepted (shownWords w none)
 readWords w (read.refused r) = refused r
 
 -- the fields of a prelude in offset order, and the first chunk's offset

@@ -2,7 +2,9 @@
 -- the walker's: after a packet only the position has moved (`packet-moves`), so four new words are all of the walker's (`position-kept`); End and a
 -- refusal write all seven.
 -- Assumes nothing.
-use mathlib.Core.Path.{refl, sym, ap, _∙_}
+use mathlib.Core.Path.{refl, sym, ap, subst, _∙_}
+use Rattle.error.specs.Answer.{accepted}
+use Rattle.demuxer.specs.Read.{Placed}
 use Rattle.words.specs.State.{saidWalker, walkerWords}
 use Rattle.words.proofs.Laws.{says-accepted, says-error, packet-placed}
 use Rattle.words.proofs.States.{position-kept}
@@ -65,8 +67,9 @@ returns-2 c =
     let a = s .before .before .before .before .before .args in
     let legal = known saidWalker (s .before .before .walker-of .ensures) (s .state .given .1) in
     let given = p .before .before .before .before .answer .given .1 in
+    let placed = packet-placed (a .file .now) w _ (subst (Placed (a .file .now) w) given (r .ensures .1)) in
     walks 7 _ (nextWalker (a .file .now)) _ legal
-    (says-accepted 7 (read-gave (a .file .now) w (r .ensures .0) given ∙ sym (packet-placed (a .file .now) w _ given (r .ensures .1)))
+    (says-accepted 7 (read-gave (a .file .now) w (r .ensures .0) given ∙ ap accepted (sym placed))
     (c .packet-out .ensures))
     (p .at-position .ensures ∙ position-kept (a .walker .now) w _ legal ∙ ap walkerWords (sym (packet-moves (a .file .now) w (r .ensures .0) given))
     ∙ ap (λ q. walkerWords (q .walker)) (r .ensures .0))
