@@ -6,3 +6,4 @@ pub mod Listed
 pub mod Pages
 pub mod Sounds
 pub mod Words
+pub mod Registers
