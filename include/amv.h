@@ -1,4 +1,4 @@
-/* AMV recordings: read, index, jump, check and write them, print the index, and decode the sound.
+/* AMV recordings: read, index, jump, check and write them, print the index, decode the sound, and drive a reader by registers.
  *
  * The functions of the proved library, for callers in C and C++. docs/FORMAT.md has the format, what each call gives for every argument, and
  * what is proved of whole lists of calls. Link libamv: ./build-library.sh makes target/lib/libamv.a and ./install.sh PREFIX installs it, for
@@ -34,8 +34,8 @@ extern "C" {
  * number while the first is 0, and an addition the third. */
 #define AMV_VERSION_MAJOR 0
 #define AMV_VERSION_MINOR 4
-#define AMV_VERSION_PATCH 0
-#define AMV_VERSION "0.4.0"
+#define AMV_VERSION_PATCH 1
+#define AMV_VERSION "0.4.1"
 
 /* A file's longest length in bytes; the bytes of a prelude, at whose end the first chunk stands. */
 #define AMV_FILE_LIMIT 4294967295
@@ -165,6 +165,53 @@ uint32_t amv_build_chunk_index(const uint8_t *file, size_t len, uint8_t *table, 
  * the table is. */
 enum { AMV_SEEK_STAMP = 1, AMV_SEEK_WORDS };
 uint32_t amv_seek_to_via_index(const uint8_t *table, size_t table_len, uint64_t walker[AMV_WALKER_WORDS], uint32_t stream, int64_t request, uint64_t out[AMV_SEEK_WORDS]);
+
+/* The register block, 16 bytes through which a panel's controller drives a reader. The names are the bytes where each register starts.
+ *
+ *     byte     register      written by           what it holds
+ *     0        command       controller           0 none, 1 read, 2 seek picture, 3 seek sound; each step sets it to 0
+ *     1        status        step                 bit 0 packet waiting, bit 1 end, bit 2 cut, bit 3 refused; bits 4 to 7 are 0
+ *     2        enable        controller           the bits of status that may interrupt, by the same bits
+ *     3        pending       step                 the interrupts that are pending, by the same bits
+ *     4        acknowledge   controller           the bits of pending to clear; each step sets it to 0
+ *     5        refusal       step                 the number of this step's refused read or seek, 0 where none was refused
+ *     6, 7     free          controller           never changed
+ *     8 to 15  request       controller, step     the request of a seek, signed, little-endian; a step leaves here the stamp of the packet that its
+ *                                                 read gave, or that its accepted seek answered, and else what it found
+ */
+enum {
+    AMV_REGISTER_COMMAND = 0,
+    AMV_REGISTER_STATUS = 1,
+    AMV_REGISTER_ENABLE = 2,
+    AMV_REGISTER_PENDING = 3,
+    AMV_REGISTER_ACKNOWLEDGE = 4,
+    AMV_REGISTER_REFUSAL = 5,
+    AMV_REGISTER_REQUEST = 8,
+    AMV_REGISTER_BLOCK_LEN = 16
+};
+enum {
+    AMV_COMMAND_NONE = 0,
+    AMV_COMMAND_READ = 1,
+    AMV_COMMAND_SEEK_PICTURE = 2,
+    AMV_COMMAND_SEEK_SOUND = 3
+};
+enum {
+    AMV_STATUS_PACKET = 1,
+    AMV_STATUS_END = 2,
+    AMV_STATUS_CUT = 4,
+    AMV_STATUS_REFUSED = 8
+};
+
+/* A step of the register block. It clears in pending each bit that is set in acknowledge; performs the command, a read as amv_next_packet and
+ * a seek as amv_seek_to_via_index of stream 0 (picture) or 1 (sound) to the request; writes status anew, end and cut being the walker's; makes
+ * pending each enabled bit that was 0 in the status it found and is 1 now; and sets command and acknowledge to 0. A bit that is acknowledged
+ * and rises in one step is pending after it. Where one read after another gives a packet, bit 0 stays 1 and rises once: to be interrupted for
+ * each, set status to 0 before the next read, or run a step with the command 0 between two. The table is that of a jump; a read does not look
+ * at it, and a seek does not look at the file.
+ * out: as amv_next_packet's where this step's read gave a packet, else all 0. Refuses with 1, 74 and 75, in this order, and then no byte of
+ * the block is changed. A read or seek that is refused does not refuse the step: it shows in the block alone, by bit 3 of status and by its
+ * number in the register refusal, and walker and request stay as they are. */
+uint32_t amv_register_step(const uint8_t *file, size_t len, const uint8_t *table, size_t table_len, uint64_t walker[AMV_WALKER_WORDS], uint8_t *block, size_t block_len, uint64_t out[AMV_PACKET_WORDS]);
 
 /* The page of an index for a strip printer: a line of AMV_PAGE_COLUMNS bytes of ASCII for each record, one after another, without line ends.
  * Bytes after the last line stay as they are. The table is the records of amv_build_chunk_index and nothing after them, as for a jump. A page
@@ -301,7 +348,10 @@ uint32_t amv_from_frame_count(uint64_t frames, uint32_t fps);
     /* the sound block */ \
     ROW(71, AMV_ERROR_STEP_INDEX_TOO_LARGE, "Is the block's step index at most 88?", "2") \
     ROW(72, AMV_ERROR_NIBBLES_MISSING, "Is the block's sample count at most twice the bytes after its preamble?", "4") \
-    ROW(73, AMV_ERROR_SAMPLE_BUFFER_TOO_SHORT, "Does the buffer hold all samples of the block?", "0")
+    ROW(73, AMV_ERROR_SAMPLE_BUFFER_TOO_SHORT, "Does the buffer hold all samples of the block?", "0") \
+    /* the register block */ \
+    ROW(74, AMV_ERROR_WRONG_REGISTER_BLOCK, "Has the register block 16 bytes?", "0") \
+    ROW(75, AMV_ERROR_UNKNOWN_COMMAND, "Is the command 0, 1, 2 or 3?", "0")
 
 #define AMV_NUMBER_OF(number, name, question, place) name = number,
 enum { AMV_REFUSALS(AMV_NUMBER_OF) };

@@ -1,8 +1,8 @@
 /*
- * Holds the names of include/amv.h against the library: every word of a state and of an out and every field of a record, of a line and of a
- * sound block, on inputs in which each has another value, the tags and streams, and some of the numbers. The numbers and texts of all
- * refusals and the file limit are held against the source by bindings/rust/tests/signatures.rs. Both C99 and C++11, so that the header is
- * compiled as both.
+ * Holds the names of include/amv.h against the library: every word of a state and of an out, every field of a record, of a line and of a
+ * sound block and every register, on inputs in which each has another value, the commands and the bits of status, the tags and streams, and
+ * some of the numbers. The numbers and texts of all refusals and the file limit are held against the source by
+ * bindings/rust/tests/signatures.rs. Both C99 and C++11, so that the header is compiled as both.
  */
 #include <stdio.h>
 #include <string.h>
@@ -187,6 +187,126 @@ static void index_and_jump(void)
     EXPECT(316 + 18 + 11, out[AMV_PLACE]);
     EXPECT(AMV_OK, amv_build_chunk_index(damaged, (size_t)out[AMV_PLACE], table, sizeof table, out));
     EXPECT(2, out[AMV_INDEX_COUNT]);
+}
+
+/* Bits of a register that are none of status: one that is enabled, two that are pending, and of these one that is acknowledged. */
+enum { OTHER_ENABLED = 0x80, OTHER_PENDING = 0x50, OTHER_ACKNOWLEDGED = 0x10, OTHER_LEFT = 0x40 };
+enum { ENABLED = AMV_STATUS_PACKET | AMV_STATUS_END | AMV_STATUS_REFUSED | OTHER_ENABLED };
+
+/* What a list of steps goes by, and what the last of them gave. */
+struct stepper {
+    uint8_t table[3 * AMV_ENTRY_LEN], block[AMV_REGISTER_BLOCK_LEN];
+    uint64_t walker[AMV_WALKER_WORDS], out[AMV_PACKET_WORDS];
+};
+
+/* Leaves another value in each register. Status shows nothing, so that each bit that a step sets rises; all but cut may interrupt. */
+static void leave(uint8_t *block, uint64_t command, int64_t request)
+{
+    put(block + AMV_REGISTER_COMMAND, command, 1);
+    put(block + AMV_REGISTER_STATUS, 0x20, 1);
+    put(block + AMV_REGISTER_ENABLE, ENABLED, 1);
+    put(block + AMV_REGISTER_PENDING, OTHER_PENDING, 1);
+    put(block + AMV_REGISTER_ACKNOWLEDGE, OTHER_ACKNOWLEDGED, 1);
+    put(block + AMV_REGISTER_REFUSAL, 99, 1);
+    put(block + 6, 0x7766, 2); /* the free bytes */
+    put(block + AMV_REGISTER_REQUEST, (uint64_t)request, 8);
+}
+
+/* A step that is accepted, over so many bytes of a file. */
+static void step(struct stepper *s, const uint8_t *of, size_t of_len, uint64_t command, int64_t request)
+{
+    leave(s->block, command, request);
+    memset(s->out, 7, sizeof s->out);
+    EXPECT(AMV_OK, amv_register_step(of, of_len, s->table, sizeof s->table, s->walker, s->block, sizeof s->block, s->out));
+    EXPECT(0, s->out[AMV_PLACE]);
+}
+
+/* What the step has made of the registers: a bit of status is pending where it may interrupt. Where packet is not set, all of out is 0. */
+static void expect_registers(const struct stepper *s, uint64_t status, uint64_t refusal, int64_t request)
+{
+    EXPECT(0, s->block[AMV_REGISTER_COMMAND]);
+    EXPECT(status, s->block[AMV_REGISTER_STATUS]);
+    EXPECT(ENABLED, s->block[AMV_REGISTER_ENABLE]);
+    EXPECT(OTHER_LEFT | (status & ENABLED), s->block[AMV_REGISTER_PENDING]);
+    EXPECT(0, s->block[AMV_REGISTER_ACKNOWLEDGE]);
+    EXPECT(refusal, s->block[AMV_REGISTER_REFUSAL]);
+    EXPECT(0x7766, get(s->block + 6, 2));
+    EXPECT(request, get(s->block + AMV_REGISTER_REQUEST, 8));
+    EXPECT((status & AMV_STATUS_PACKET) != 0, s->out[AMV_PACKET_IS_PACKET]);
+    for (int i = 0; i < AMV_PACKET_WORDS && !(status & AMV_STATUS_PACKET); i++)
+        EXPECT(0, s->out[i]);
+}
+
+static void seek_and_read(struct stepper *s)
+{
+    step(s, file, len, AMV_COMMAND_SEEK_SOUND, 1);
+    expect_registers(s, 0, 0, 5);
+    step(s, file, len, AMV_COMMAND_NONE, -2);
+    expect_registers(s, 0, 0, -2);
+    step(s, file, len, AMV_COMMAND_READ, -3);
+    expect_registers(s, AMV_STATUS_PACKET, 0, 5);
+    EXPECT(AMV_STREAM_AUDIO, s->out[AMV_PACKET_STREAM]);
+    EXPECT(316 + 18 + 11 + 8, s->out[AMV_PACKET_START]);
+    EXPECT(10, s->out[AMV_PACKET_LEN]);
+    EXPECT(5, s->out[AMV_PACKET_STAMP]);
+    EXPECT(6, s->out[AMV_PACKET_DURATION]);
+    step(s, file, len, AMV_COMMAND_READ, -4);
+    expect_registers(s, AMV_STATUS_END, 0, -4);
+    EXPECT(len - 8, s->walker[AMV_WALKER_TRAILER]);
+    /* A picture after the last one is at the end too, and its stamp is the number of pictures. */
+    step(s, file, len, AMV_COMMAND_SEEK_PICTURE, 9);
+    expect_registers(s, AMV_STATUS_END, 0, 1);
+    step(s, file, len, AMV_COMMAND_SEEK_PICTURE, -1);
+    expect_registers(s, 0, 0, 0);
+    EXPECT(316 + 18, s->walker[AMV_WALKER_CURSOR]);
+}
+
+/* From the picture on: it is damaged, and the read is refused but the step is not; the file ends inside it, and is cut. */
+static void step_over_damage_and_cut(struct stepper *s)
+{
+    uint8_t damaged[sizeof file];
+    memcpy(damaged, file, len);
+    damaged[316 + 18] = 'X';
+    step(s, damaged, len, AMV_COMMAND_READ, -5);
+    expect_registers(s, AMV_STATUS_REFUSED, AMV_ERROR_UNKNOWN_TAG, -5);
+    EXPECT(316 + 18, s->walker[AMV_WALKER_CURSOR]);
+    step(s, file, 316 + 18 + 10, AMV_COMMAND_READ, -6);
+    expect_registers(s, AMV_STATUS_END | AMV_STATUS_CUT, 0, -6);
+    step(s, file, len, AMV_COMMAND_SEEK_PICTURE, 0);
+    expect_registers(s, AMV_STATUS_CUT, 0, 0);
+}
+
+/* A step over a block of that length, with no records, that is refused at 0 and leaves block and walker. */
+static uint32_t refused_step(uint64_t walker[AMV_WALKER_WORDS], size_t block_len)
+{
+    uint8_t block[AMV_REGISTER_BLOCK_LEN + 1], before[sizeof block];
+    uint64_t out[AMV_PACKET_WORDS];
+    memset(block, 0xEE, sizeof block);
+    leave(block, AMV_COMMAND_SEEK_SOUND + 1, -7);
+    memcpy(before, block, sizeof before);
+    memset(out, 7, sizeof out);
+    uint32_t number = amv_register_step(file, len, NULL, 0, walker, block, block_len, out);
+    for (int i = 0; i < AMV_PACKET_WORDS; i++)
+        EXPECT(0, out[i]);
+    EXPECT(0, memcmp(before, block, sizeof before));
+    EXPECT(AMV_PRELUDE_LEN, walker[AMV_WALKER_CURSOR]);
+    return number;
+}
+
+static void register_step(void)
+{
+    struct stepper s = {{0}, {0}, AMV_FRESH_WALKER, {0}};
+    uint64_t indexed[AMV_INDEX_WORDS], walker[AMV_WALKER_WORDS] = AMV_FRESH_WALKER;
+    EXPECT(AMV_OK, amv_build_chunk_index(file, len, s.table, sizeof s.table, indexed));
+    seek_and_read(&s);
+    step_over_damage_and_cut(&s);
+    /* What is asked of a step, in its order: each call answers the question before with yes, and this one and those after it with no. */
+    walker[AMV_WALKER_CUT] = 2;
+    EXPECT(AMV_ERROR_ILLEGAL_STATE, refused_step(walker, AMV_REGISTER_BLOCK_LEN - 1));
+    walker[AMV_WALKER_CUT] = 0;
+    EXPECT(AMV_ERROR_WRONG_REGISTER_BLOCK, refused_step(walker, AMV_REGISTER_BLOCK_LEN - 1));
+    EXPECT(AMV_ERROR_WRONG_REGISTER_BLOCK, refused_step(walker, AMV_REGISTER_BLOCK_LEN + 1));
+    EXPECT(AMV_ERROR_UNKNOWN_COMMAND, refused_step(walker, AMV_REGISTER_BLOCK_LEN));
 }
 
 /* The number in the columns of a line from one to before another, after the spaces. */
@@ -399,6 +519,7 @@ int main(void)
     parse();
     reads();
     index_and_jump();
+    register_step();
     print_index();
     decode_block();
     check();

@@ -10,7 +10,10 @@
 use std::fmt;
 
 mod refusals;
+mod registers;
 pub mod sys;
+
+pub use registers::{command, register, status};
 
 /// Why a call was refused: the number of the question, and the place where it was asked.
 #[derive(Clone, Copy, Debug, PartialEq, Eq)]
@@ -389,17 +392,19 @@ impl<'a> AmvDemuxer<'a> {
                 &mut out,
             )
         };
-        let [_, is_packet, stream, offset, len, stamp, duration] = answer(number, out)?;
-        if is_packet == 0 {
-            return Ok(None);
-        }
+        answer(number, out).map(|w| self.packet_of(w))
+    }
+
+    /// The packet that a read's or a step's words are; none where it gave none.
+    fn packet_of(&self, words: [u64; 7]) -> Option<Packet<'a>> {
+        let [_, is_packet, stream, offset, len, stamp, duration] = words;
         let start = offset as usize;
-        Ok(Some(Packet {
+        (is_packet == 1).then(|| Packet {
             stream_index: stream as u32,
             data: &self.file[start..start + len as usize],
             pts: stamp,
             duration: (duration != 0).then_some(duration),
-        }))
+        })
     }
 
     /// Builds the index of the file and keeps it. Refuses with 31, and then keeps what it had.
@@ -444,6 +449,63 @@ impl<'a> AmvDemuxer<'a> {
             )
         };
         answer(number, out).map(|w| w[1])
+    }
+
+    /// A step of the register block: performs what a controller has left in its 16 bytes, over an index that is given, and leaves there what
+    /// became of it. Gives the packet where the command was a read and the read gave one. [`register`], [`command`] and [`status`] name what
+    /// the bytes hold; include/amv.h has them in a table.
+    ///
+    /// Refuses with 74 and 75, and then no byte of the block is changed. A read or seek that is refused does not refuse the step: it shows in
+    /// the block alone, by [`status::REFUSED`] and by its number in [`register::REFUSAL`], and the reader stays where it is.
+    ///
+    /// ```
+    /// use amv::{command, register, status};
+    /// # let mut file = vec![0; 400];
+    /// # let settings = amv::Settings { width: 8, height: 8, fps: 12, rate: 8000, channels: 1 };
+    /// # let mut muxer = amv::AmvMuxer::new(settings, &mut file);
+    /// # muxer.write_header()?;
+    /// # for _ in 0..3 {
+    /// #     muxer.write_packet(&[1, 2, 3], 0)?;
+    /// # }
+    /// # muxer.write_trailer()?;
+    /// let mut demuxer = amv::AmvDemuxer::open(&file)?;
+    /// let index = amv::ChunkIndex::build(&file)?;
+    /// let mut block = [0; register::BLOCK_LEN];
+    /// // The controller asks for picture 2, and to be interrupted where a packet is there.
+    /// block[register::ENABLE] = status::PACKET;
+    /// block[register::COMMAND] = command::SEEK_PICTURE;
+    /// block[register::REQUEST..].copy_from_slice(&2i64.to_le_bytes());
+    /// assert_eq!(demuxer.register_step(&index, &mut block)?, None);
+    /// // It reads.
+    /// block[register::COMMAND] = command::READ;
+    /// let packet = demuxer.register_step(&index, &mut block)?.unwrap();
+    /// assert_eq!((packet.stream_index, packet.pts), (0, 2));
+    /// assert_eq!(block[register::PENDING], status::PACKET);
+    /// // It acknowledges. A bit interrupts where it rises, and in this step packet falls.
+    /// block[register::ACKNOWLEDGE] = status::PACKET;
+    /// demuxer.register_step(&index, &mut block)?;
+    /// assert_eq!((block[register::PENDING], block[register::STATUS]), (0, 0));
+    /// # Ok::<(), amv::AmvError>(())
+    /// ```
+    pub fn register_step(
+        &mut self,
+        index: &ChunkIndex,
+        block: &mut [u8],
+    ) -> Result<Option<Packet<'a>>> {
+        let mut out = [0; 7];
+        let number = unsafe {
+            sys::amv_register_step(
+                self.file.as_ptr(),
+                self.file.len(),
+                index.records.as_ptr(),
+                index.records.len(),
+                &mut self.walker,
+                block.as_mut_ptr(),
+                block.len(),
+                &mut out,
+            )
+        };
+        answer(number, out).map(|w| self.packet_of(w))
     }
 
     /// The offset of the next chunk.

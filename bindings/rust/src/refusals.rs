@@ -84,4 +84,7 @@ refusals! {
     (71, STEP_INDEX_TOO_LARGE, "Is the block's step index at most 88?", "2"),
     (72, NIBBLES_MISSING, "Is the block's sample count at most twice the bytes after its preamble?", "4"),
     (73, SAMPLE_BUFFER_TOO_SHORT, "Does the buffer hold all samples of the block?", "0"),
+    // The register block
+    (74, WRONG_REGISTER_BLOCK, "Has the register block 16 bytes?", "0"),
+    (75, UNKNOWN_COMMAND, "Is the command 0, 1, 2 or 3?", "0"),
 }

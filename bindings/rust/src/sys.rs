@@ -30,6 +30,18 @@ unsafe extern "C" {
         request: i64,
         out: *mut [u64; 2],
     ) -> u32;
+    /// A step of the register block: acknowledges, performs its command on the walker and writes it anew; the packet that a read gave. Refuses
+    /// with 1, 74 and 75.
+    pub fn amv_register_step(
+        file: *const u8,
+        len: usize,
+        table: *const u8,
+        table_len: usize,
+        walker: *mut [u64; 7],
+        block: *mut u8,
+        block_len: usize,
+        out: *mut [u64; 7],
+    ) -> u32;
     /// The page of an index: a line of 40 columns for each record, and their number. Refuses with 41, 43, 70 and 40.
     pub fn amv_print_index(
         table: *const u8,

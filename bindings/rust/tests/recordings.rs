@@ -1,6 +1,7 @@
 //! Recordings that this wrapper writes, cuts and damages, and what it reads from them.
 
 use amv::*;
+use std::collections::BTreeSet;
 
 const SETTINGS: Settings = Settings {
     width: 64,
@@ -14,7 +15,7 @@ const SETTINGS: Settings = Settings {
 fn block(samples: u32, fill: u8) -> Vec<u8> {
     let mut bytes = vec![fill; 4];
     bytes.extend_from_slice(&samples.to_le_bytes());
-    bytes.extend(std::iter::repeat(fill).take(samples as usize / 2));
+    bytes.extend(std::iter::repeat_n(fill, samples as usize / 2));
     bytes
 }
 
@@ -405,6 +406,305 @@ fn the_sound_of_a_recording_has_as_many_samples_as_the_check_says() {
         }
     }
     assert_eq!(heard, check(&file).unwrap().samples);
+}
+
+/// A register block in which a command and its request are left, and all else is 0.
+fn registers(command: u8, request: i64) -> [u8; register::BLOCK_LEN] {
+    let mut block = [0; register::BLOCK_LEN];
+    leave(&mut block, command, request);
+    block
+}
+
+/// Leaves a command and its request.
+fn leave(block: &mut [u8], command: u8, request: i64) {
+    block[register::COMMAND] = command;
+    block[register::REQUEST..].copy_from_slice(&request.to_le_bytes());
+}
+
+/// What the register request holds.
+fn request(block: &[u8]) -> i64 {
+    i64::from_le_bytes(block[register::REQUEST..].try_into().unwrap())
+}
+
+/// Where a reader stands, all of it.
+fn stand(demuxer: &AmvDemuxer) -> ([u64; 4], bool, bool, Option<u64>) {
+    let counts = [
+        demuxer.cursor(),
+        demuxer.video_frames_emitted(),
+        demuxer.audio_samples_emitted(),
+        demuxer.audio_blocks_emitted(),
+    ];
+    let (end, cut) = (demuxer.is_at_end(), demuxer.is_truncated());
+    (counts, end, cut, demuxer.trailer_offset())
+}
+
+#[test]
+fn a_controller_seeks_reads_and_acknowledges() {
+    let file = write(&packets());
+    let all = drain(&mut AmvDemuxer::open(&file).unwrap());
+    let index = ChunkIndex::build(&file).unwrap();
+    let mut demuxer = AmvDemuxer::open(&file).unwrap();
+    let mut block = registers(command::SEEK_PICTURE, 3);
+    block[register::ENABLE] = status::PACKET | status::END | status::CUT;
+    assert_eq!(demuxer.register_step(&index, &mut block), Ok(None));
+    assert_eq!(block[..register::REQUEST], [0, 0, 7, 0, 0, 0, 0, 0]);
+    let mut read = Vec::new();
+    loop {
+        block[register::COMMAND] = command::READ;
+        let packet = demuxer.register_step(&index, &mut block).unwrap();
+        let bit = packet.map_or(status::END, |_| status::PACKET);
+        assert_eq!(block[..4], [0, bit, 7, bit]);
+        // A step of its own: packet falls, and can rise again.
+        block[register::ACKNOWLEDGE] = block[register::PENDING];
+        assert_eq!(demuxer.register_step(&index, &mut block), Ok(None));
+        assert_eq!(block[register::PENDING], 0);
+        let Some(packet) = packet else { break };
+        assert_eq!(block[register::STATUS], 0);
+        assert_eq!(request(&block), packet.pts as i64);
+        read.push(packet);
+    }
+    assert_eq!(read, all[6..]);
+    assert_eq!(block[..register::REQUEST], [0, 2, 7, 0, 0, 0, 0, 0]);
+    assert_eq!(request(&block), 60);
+    assert_eq!(demuxer.trailer_offset(), Some(file.len() as u64 - 8));
+    // Sound has stamps of its own. Past the last of them is the end, where the samples are those before the last block.
+    for (asked, given, marks) in [(22, 33, 0), (33, 33, 0), (61, 60, status::END)] {
+        leave(&mut block, command::SEEK_SOUND, asked);
+        assert_eq!(demuxer.register_step(&index, &mut block), Ok(None));
+        assert_eq!((request(&block), block[register::STATUS]), (given, marks));
+    }
+}
+
+#[test]
+fn a_refused_read_or_seek_shows_in_the_block_alone() {
+    let packets = packets();
+    let mut damaged = write(&packets);
+    let at = ends(&packets)[2];
+    let index = ChunkIndex::build(&damaged).unwrap();
+    damaged[at] = b'X';
+    let bad = [index.records(), &[0; 24]].concat();
+    let ragged = ChunkIndex::from_records(bad[1..].to_vec());
+    let bad = ChunkIndex::from_records(bad);
+    let mut demuxer = AmvDemuxer::open(&damaged).unwrap();
+    let mut block = registers(command::SEEK_PICTURE, 1);
+    block[register::ENABLE] = status::REFUSED;
+    assert_eq!(demuxer.register_step(&index, &mut block), Ok(None));
+    let before = stand(&demuxer);
+    assert_eq!(before.0[0], at as u64);
+    for (records, command, number) in [
+        (&ragged, command::READ, AmvError::UNKNOWN_TAG),
+        (&ragged, command::SEEK_PICTURE, AmvError::TABLE_RAGGED),
+        (&bad, command::SEEK_SOUND, AmvError::BAD_RECORD),
+    ] {
+        leave(&mut block, command, -7);
+        assert_eq!(demuxer.register_step(records, &mut block), Ok(None));
+        assert_eq!(stand(&demuxer), before);
+        assert_eq!(
+            block[..register::REQUEST],
+            [0, 8, 8, 8, 0, number as u8, 0, 0]
+        );
+        assert_eq!(request(&block), -7);
+    }
+    // The next step that is not refused clears the bit and the number; the interrupt waits to be acknowledged.
+    leave(&mut block, command::SEEK_SOUND, 0);
+    assert_eq!(demuxer.register_step(&index, &mut block), Ok(None));
+    assert_eq!(block[..register::REQUEST], [0, 0, 8, 8, 0, 0, 0, 0]);
+    block[register::COMMAND] = command::READ;
+    let packet = demuxer.register_step(&index, &mut block).unwrap().unwrap();
+    assert_eq!(packet.data, packets[1].1);
+}
+
+#[test]
+fn a_step_that_is_refused_changes_nothing() {
+    let file = write(&packets());
+    let index = ChunkIndex::build(&file).unwrap();
+    let mut demuxer = AmvDemuxer::open(&file).unwrap();
+    demuxer.next_packet().unwrap();
+    let before = stand(&demuxer);
+    let long: Vec<u8> = (0..40).map(|n| 0xFF - n).collect();
+    for (len, command, number) in [
+        (0, 0, AmvError::WRONG_REGISTER_BLOCK),
+        (15, command::READ, AmvError::WRONG_REGISTER_BLOCK),
+        (17, command::READ, AmvError::WRONG_REGISTER_BLOCK),
+        (15, 4, AmvError::WRONG_REGISTER_BLOCK),
+        (17, 4, AmvError::WRONG_REGISTER_BLOCK),
+        (16, 4, AmvError::UNKNOWN_COMMAND),
+        (16, 0xFF, AmvError::UNKNOWN_COMMAND),
+    ] {
+        let mut block = long.clone();
+        block[register::COMMAND] = command;
+        let left = block.clone();
+        let refused = AmvError { number, place: 0 };
+        let step = demuxer.register_step(&index, &mut block[..len]);
+        assert_eq!(step, Err(refused));
+        assert_eq!(block, left);
+        assert_eq!(stand(&demuxer), before);
+    }
+    // What stands after the 16 bytes is not theirs.
+    let mut block = long.clone();
+    block[register::COMMAND] = command::READ;
+    let packet = demuxer.register_step(&index, &mut block[..16]).unwrap();
+    assert_eq!(packet.unwrap().stream_index, 1);
+    assert_eq!(block[16..], long[16..]);
+}
+
+/// A step by what the reader itself reads and seeks: the packet, and the block after it.
+fn step_by_calls<'a>(
+    demuxer: &mut AmvDemuxer<'a>,
+    index: &ChunkIndex,
+    found: [u8; register::BLOCK_LEN],
+) -> (Option<Packet<'a>>, [u8; register::BLOCK_LEN]) {
+    let mut seek = |stream| {
+        let stamp = demuxer.seek_to_via_index(index, stream, request(&found));
+        stamp.map(|stamp| (None, Some(stamp)))
+    };
+    let performed = match found[register::COMMAND] {
+        command::READ => demuxer.next_packet().map(|p| (p, p.map(|p| p.pts))),
+        command::SEEK_PICTURE => seek(0),
+        command::SEEK_SOUND => seek(1),
+        _ => Ok((None, None)),
+    };
+    let refusal = performed.map_or_else(|refused| refused.number as u8, |_| 0);
+    let (packet, stamp) = performed.unwrap_or((None, None));
+    let bit = |set: bool, bit: u8| if set { bit } else { 0 };
+    let status = bit(packet.is_some(), status::PACKET)
+        | bit(demuxer.is_at_end(), status::END)
+        | bit(demuxer.is_truncated(), status::CUT)
+        | bit(refusal != 0, status::REFUSED);
+    let risen = status & !found[register::STATUS];
+    let mut block = found;
+    leave(&mut block, 0, stamp.map_or(request(&found), |s| s as i64));
+    block[register::STATUS] = status;
+    block[register::PENDING] &= !found[register::ACKNOWLEDGE];
+    block[register::PENDING] |= risen & found[register::ENABLE];
+    block[register::ACKNOWLEDGE] = 0;
+    block[register::REFUSAL] = refusal;
+    (packet, block)
+}
+
+/// Steps of one reader, and the same by calls of another, over a list of blocks; what each command came to, by its status and refusal.
+fn compare_steps(
+    file: &[u8],
+    index: &ChunkIndex,
+    blocks: impl Iterator<Item = [u8; register::BLOCK_LEN]>,
+) -> BTreeSet<[u8; 3]> {
+    let mut stepped = AmvDemuxer::open(file).unwrap();
+    let mut called = stepped.clone();
+    let mut came_to = BTreeSet::new();
+    for found in blocks {
+        let mut block = found;
+        let packet = stepped.register_step(index, &mut block).unwrap();
+        let by_calls = step_by_calls(&mut called, index, found);
+        assert_eq!((packet, block), by_calls, "found {found:?}");
+        assert_eq!(stand(&stepped), stand(&called), "found {found:?}");
+        came_to.insert([
+            found[register::COMMAND],
+            block[register::STATUS],
+            block[register::REFUSAL],
+        ]);
+    }
+    came_to
+}
+
+/// Numbers that are the same in each run.
+fn numbers(seed: u64) -> impl Iterator<Item = u64> {
+    let next = |n: &u64| Some(n.wrapping_mul(6364136223846793005).wrapping_add(1));
+    std::iter::successors(next(&seed), next).map(|n| n >> 24)
+}
+
+/// Blocks of all commands, whose other registers hold anything; requests go from before the first stamp to past the last.
+fn left_blocks(seed: u64, count: usize) -> impl Iterator<Item = [u8; register::BLOCK_LEN]> {
+    let mut numbers = numbers(seed);
+    let mut next = move || numbers.next().unwrap();
+    std::iter::repeat_with(move || {
+        let request = match next() % 20 {
+            0 => i64::MIN,
+            1 => i64::MAX,
+            n => (next() % [10, 80][n as usize % 2]) as i64 - 2,
+        };
+        let mut block = registers((next() % 4) as u8, request);
+        block[register::STATUS..register::REQUEST].fill_with(|| next() as u8);
+        block
+    })
+    .take(count)
+}
+
+#[test]
+fn steps_do_what_reads_and_seeks_do() {
+    let packets = packets();
+    let file = write(&packets);
+    let whole = ChunkIndex::build(&file).unwrap();
+    let mut came_to = BTreeSet::new();
+    for len in 316..=file.len() {
+        let cut = &file[..len];
+        let index = ChunkIndex::build(cut).unwrap();
+        // Over its own index, and over one whose chunks it does not all have.
+        for (index, seed) in [(&index, len), (&whole, 2 * len)] {
+            came_to.extend(compare_steps(cut, index, left_blocks(seed as u64, 60)));
+        }
+    }
+    let mut damaged = file.clone();
+    damaged[ends(&packets)[5]] = b'X';
+    let bad = [whole.records(), &[0; 24]].concat();
+    for (records, seed) in [(whole.records(), 1), (&bad, 2), (&bad[1..], 3), (&[], 4)] {
+        let index = ChunkIndex::from_records(records.to_vec());
+        came_to.extend(compare_steps(&damaged, &index, left_blocks(seed, 200)));
+    }
+    // All that the bits can be came up, and each refusal.
+    use {command::*, status::*};
+    for command in [NONE, SEEK_PICTURE, SEEK_SOUND] {
+        for status in [0, END, CUT, END | CUT] {
+            assert!(
+                came_to.contains(&[command, status, 0]),
+                "{command} {status}"
+            );
+        }
+    }
+    for status in [PACKET, PACKET | CUT, END, END | CUT] {
+        assert!(came_to.contains(&[READ, status, 0]), "read {status}");
+    }
+    for (command, number) in [(READ, 31), (SEEK_PICTURE, 41), (SEEK_SOUND, 43)] {
+        assert!(came_to.contains(&[command, REFUSED, number]), "{number}");
+    }
+}
+
+#[test]
+fn an_interrupt_is_pending_where_an_enabled_bit_rises_until_it_is_acknowledged() {
+    use {command::*, status::*};
+    let file = write(&packets()[..3]);
+    let index = ChunkIndex::build(&file).unwrap();
+    let mut demuxer = AmvDemuxer::open(&file).unwrap();
+    let mut block = registers(NONE, 0);
+    for (command, enable, acknowledge, status, pending, what) in [
+        (READ, END | CUT | REFUSED, 0, PACKET, 0, "not enabled"),
+        (READ, PACKET, 0, PACKET, 0, "no rise"),
+        (NONE, PACKET, 0, 0, 0, "a fall"),
+        (READ, PACKET, 0, PACKET, PACKET, "a rise"),
+        (READ, PACKET, 0, END, PACKET, "a fall, and packet waits"),
+        (NONE, END, END, END, PACKET, "end acknowledged, no rise"),
+        (NONE, 0, 0, END, PACKET, "packet waits, not enabled"),
+        (SEEK_PICTURE, PACKET | END, 0, 0, PACKET, "end falls"),
+        (READ, PACKET, PACKET, PACKET, PACKET, "cleared, then a rise"),
+        (READ, PACKET, PACKET, PACKET, 0, "cleared, and no rise"),
+        (READ, 0xFF, 0, PACKET, 0, "all enabled, no rise"),
+        (READ, 0xFF, 0, END, END, "all enabled, end rises"),
+        (NONE, 0xFF, 0xFF, END, 0, "all cleared"),
+    ] {
+        leave(&mut block, command, 0);
+        block[register::ENABLE] = enable;
+        block[register::ACKNOWLEDGE] = acknowledge;
+        demuxer.register_step(&index, &mut block).unwrap();
+        let [_, status_now, enable_now, pending_now, acknowledge_now, ..] = block;
+        assert_eq!((status_now, pending_now), (status, pending), "{what}");
+        assert_eq!((enable_now, acknowledge_now), (enable, 0), "{what}");
+    }
+    // What rises is told by the status that the step finds, whoever wrote it; bits 4 to 7 change by acknowledge alone.
+    for (found, pending) in [(0xF0, 0xC2), (0xF2, 0xC0), (0x0D, 0xC2), (0, 0xC2)] {
+        block[..register::REQUEST].copy_from_slice(&[NONE, found, 0xFF, 0xF1, 0x31, 0, 6, 7]);
+        demuxer.register_step(&index, &mut block).unwrap();
+        let left = [NONE, END, 0xFF, pending, 0, 0, 6, 7];
+        assert_eq!(block[..register::REQUEST], left, "found {found}");
+    }
 }
 
 #[test]

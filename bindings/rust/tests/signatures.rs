@@ -1,6 +1,6 @@
 //! The header, this binding and the library's source say the same: the same functions, with the same parameters of the same widths in the
-//! same order; the same refusals, by name, number, question and place, as docs/FORMAT.md has them; the same version and limits. Nothing else
-//! would notice: a linker knows only names.
+//! same order; the same refusals, by name, number, question and place, as docs/FORMAT.md has them; the same registers, commands and bits; the
+//! same version and limits. Nothing else would notice: a linker knows only names.
 
 use std::collections::BTreeMap;
 use std::fs;
@@ -144,11 +144,12 @@ fn of_source() -> Functions {
             assert!(after.starts_with("-> u32 "), "{name} returns {after}");
             let parameters = parameters.iter().flat_map(|p| {
                 let (name, of) = p.split_once(": ").expect("a parameter has a type");
-                // The lengths of a file, of a block and of the buffer to write to are called `len`, of tags `count`.
-                let len = match name {
-                    "file" | "block" | "buf" => "size_t len".to_string(),
-                    "tags" => "size_t count".to_string(),
-                    name => format!("size_t {name}_len"),
+                // The lengths of a file, of a sound block and of the buffer to write to are called `len`, of tags `count`. A register block
+                // is lent to be changed, and a sound block is not.
+                let len = match (name, of) {
+                    ("file" | "buf", _) | ("block", "&[u8]") => "size_t len".to_string(),
+                    ("tags", _) => "size_t count".to_string(),
+                    (name, _) => format!("size_t {name}_len"),
                 };
                 match of {
                     "&[u8]" => vec![format!("const uint8_t *{name}"), len],
@@ -173,7 +174,7 @@ fn of_source() -> Functions {
 #[test]
 fn header_binding_and_source_agree() {
     let source = of_source();
-    assert_eq!(source.len(), 13, "the functions of the interface");
+    assert_eq!(source.len(), 14, "the functions of the interface");
     assert_eq!(
         of_header(),
         source,
@@ -281,7 +282,7 @@ fn refusals_of_source() -> Vec<(u32, String, Option<String>)> {
 #[test]
 fn refusals_agree() {
     let header = refusals_of_header();
-    assert_eq!(header.len(), 44, "the refusals");
+    assert_eq!(header.len(), 46, "the refusals");
     assert_eq!(refusals_of_binding(), header, "refusals.rs and amv.h");
     assert_eq!(refusals_of_format(), header, "docs/FORMAT.md and amv.h");
     let by_source: Vec<_> = header
@@ -292,6 +293,95 @@ fn refusals_agree() {
         })
         .collect();
     assert_eq!(by_source, refusals_of_source(), "amv.h and crates/error");
+}
+
+/// The header's names that begin with one of these, with their numbers.
+fn header_numbers_of(beginnings: &[&str]) -> BTreeMap<String, u64> {
+    let begins = |name: &String| beginnings.iter().any(|b| name.starts_with(b));
+    let numbers = header_numbers().into_iter();
+    numbers.filter(|(name, _)| begins(name)).collect()
+}
+
+/// `pub mod status { pub const END: u8 = 2; }` as the header writes it: `AMV_STATUS_END`, 2.
+fn registers_of_binding() -> BTreeMap<String, u64> {
+    let text = without(&read("bindings/rust/src/registers.rs"), "//", "\n");
+    let modules = text.split("pub mod ").skip(1).map(words);
+    let constants = modules.flat_map(|module| {
+        let (of, constants) = module.split_once(" {").expect("a module's name");
+        let constants = constants.split("pub const ").skip(1).map(|constant| {
+            let (name, number) = constant.split_once(": ").expect("a constant's name");
+            let number = number.split(['=', ';']).nth(1).map(str::trim);
+            let number = number.and_then(|n| n.parse().ok()).expect("its number");
+            (format!("AMV_{}_{name}", of.to_uppercase()), number)
+        });
+        constants.collect::<Vec<_>>()
+    });
+    constants.collect()
+}
+
+/// The rows of a table of the register block: the first byte in the first cell, the register's name in the second. The free bytes have no name.
+fn registers_of_table<'a>(rows: impl Iterator<Item = Vec<&'a str>>) -> BTreeMap<String, u64> {
+    rows.filter_map(|cells| {
+        let [bytes, name, ..] = cells[..] else {
+            return None;
+        };
+        let first = bytes.split([' ', ',']).next()?.parse().ok()?;
+        let name = name.trim_matches('*').to_uppercase();
+        (name != "FREE").then(|| (format!("AMV_REGISTER_{name}"), first))
+    })
+    .collect()
+}
+
+/// ` *     0        command       controller  ..`
+fn registers_of_header_table() -> BTreeMap<String, u64> {
+    let text = read("include/amv.h");
+    let (_, table) = text.split_once("/* The register block,").expect("the map");
+    let (table, _) = table.split_once("*/").expect("the map ends");
+    let rows = table.lines().map(|line| {
+        let line = line.trim_start_matches([' ', '*']);
+        line.split("  ")
+            .filter(|cell| !cell.is_empty())
+            .map(str::trim)
+    });
+    registers_of_table(rows.map(Iterator::collect))
+}
+
+/// `| 0 | **command** | .. |`
+fn registers_of_format() -> BTreeMap<String, u64> {
+    let text = read("docs/FORMAT.md");
+    let mut sections = text.split("\n## ");
+    let section = sections.find(|s| s.starts_with("17 ")).expect("section 17");
+    let rows = section.lines().filter_map(|line| line.strip_prefix('|'));
+    registers_of_table(rows.map(|row| row.split('|').map(str::trim).collect()))
+}
+
+#[test]
+fn registers_agree() {
+    let header = header_numbers_of(&["AMV_REGISTER_", "AMV_COMMAND_", "AMV_STATUS_"]);
+    assert_eq!(header.len(), 16, "the names of the register block");
+    assert_eq!(registers_of_binding(), header, "registers.rs and amv.h");
+    let mut starts = header_numbers_of(&["AMV_REGISTER_"]);
+    starts.remove("AMV_REGISTER_BLOCK_LEN");
+    assert_eq!(registers_of_header_table(), starts, "the map in amv.h");
+    assert_eq!(registers_of_format(), starts, "the map in docs/FORMAT.md");
+    for (name, number) in &header {
+        let constant = register_constant(name);
+        let source = source_number("crates/registers/src/lib.rt", &constant);
+        assert_eq!(source, *number, "{name}");
+    }
+}
+
+/// The constant of the source that has the number of a name of the header: those of a register are lengths, the others bytes.
+fn register_constant(name: &str) -> String {
+    let length = name.strip_prefix("AMV_REGISTER_");
+    let byte = name
+        .strip_prefix("AMV_COMMAND_")
+        .or(name.strip_prefix("AMV_STATUS_"));
+    match (length, byte) {
+        (Some("BLOCK_LEN"), _) => "const LEN: usize =".to_string(),
+        (Some(register), _) => format!("const {register}: usize ="),
+        (None, byte) => format!("const {}: u8 =", byte.expect("a command or a bit")),
+    }
 }
 
 /// The number of a constant in a text of the source.
