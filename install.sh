@@ -50,7 +50,7 @@ includedir=\${prefix}/include
 libdir=\${prefix}/lib
 
 Name: amv
-Description: AMV recordings: read, index, jump, check, print and write them, and decode their sound, proved
+Description: AMV recordings: read, index, jump, check, print and write them, decode their sound, and drive a reader by registers, proved
 Version: $version
 Cflags: -I"\${includedir}"
 Libs: -L"\${libdir}" -lamv

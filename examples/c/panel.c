@@ -5,6 +5,7 @@
  *                             with the format's layout will do: cut, damaged, or written by another program.
  *   panel print FILE          prints its index on the strip printer, to be pinned beside the vat.
  *   panel hear FILE           decodes its sound block by block, and shows how loud each one is.
+ *   panel drive FILE PICTURE  has a controller seek to a picture and read on to the end, through the 16 bytes of the register block.
  *   panel check FILE          says whether it is a finished recording, before it is handed on or graded.
  */
 #include <inttypes.h>
@@ -316,6 +317,173 @@ static int hear(const char *name)
     return all ? 0 : 1;
 }
 
+/* A controller and the panel share the 16 bytes of the register block. The controller's functions are these, up to show_outcome: they touch the
+ * 16 bytes and nothing else of the panel.
+ *
+ * What a controller keeps for itself: the command and the bits to acknowledge that it has left for the step, the number of a refusal, or 0, how
+ * many steps it has seen, and how many packets it was interrupted for. */
+struct controller {
+    uint8_t command, acknowledge, refusal;
+    uint64_t steps, packets;
+};
+
+/* So many steps are shown, and later ones that interrupt for anything but a packet. */
+enum { SHOWN_STEPS = 8 };
+
+/* Leaves a command, and which interrupts are handled. The step sets both registers to 0. */
+static void leave_command(struct controller *c, uint8_t *block, uint8_t command, uint8_t acknowledge)
+{
+    c->command = command;
+    c->acknowledge = acknowledge;
+    block[AMV_REGISTER_COMMAND] = command;
+    block[AMV_REGISTER_ACKNOWLEDGE] = acknowledge;
+}
+
+/* Leaves a request: 8 bytes, the lowest first. */
+static void leave_request(uint8_t *block, int64_t request)
+{
+    for (int i = 0; i < 8; i++)
+        block[AMV_REGISTER_REQUEST + i] = (uint8_t)((uint64_t)request >> 8 * i);
+}
+
+/* What the register request holds: after a step that gave one, a stamp. */
+static int64_t request_in(const uint8_t *block)
+{
+    uint64_t request = 0;
+    for (int i = 0; i < 8; i++)
+        request |= (uint64_t)block[AMV_REGISTER_REQUEST + i] << 8 * i;
+    return (int64_t)request;
+}
+
+/* A register and the bits that are set in it, by their names. */
+static void show_bits(const char *name, uint8_t bits)
+{
+    printf(", %s%s%s%s%s%s", name, bits == 0 ? " none" : "", bits & AMV_STATUS_PACKET ? " packet" : "", bits & AMV_STATUS_END ? " end" : "",
+           bits & AMV_STATUS_CUT ? " cut" : "", bits & AMV_STATUS_REFUSED ? " refused" : "");
+}
+
+/* What was left for the step, and what the registers hold after it. */
+static void show_registers(const struct controller *c, const uint8_t *block)
+{
+    static const char *const commands[] = {"none", "read", "seek picture", "seek sound"};
+    printf("step: command %s", commands[c->command]);
+    if (c->acknowledge != 0)
+        show_bits("acknowledge", c->acknowledge);
+    show_bits("status", block[AMV_REGISTER_STATUS]);
+    show_bits("pending", block[AMV_REGISTER_PENDING]);
+    if (block[AMV_REGISTER_REFUSAL] != 0)
+        printf(", refusal %d", block[AMV_REGISTER_REFUSAL]);
+    printf(", request %" PRId64 "\n", request_in(block));
+}
+
+/* Before the first step: seeks to a picture, and is to be interrupted for a packet, for the end, and where a read or seek is refused. */
+static void leave_seek(struct controller *c, uint8_t *block, int64_t picture)
+{
+    block[AMV_REGISTER_ENABLE] = AMV_STATUS_PACKET | AMV_STATUS_END | AMV_STATUS_REFUSED;
+    leave_request(block, picture);
+    leave_command(c, block, AMV_COMMAND_SEEK_PICTURE, 0);
+}
+
+/* After a step: handles the interrupts that are pending, and shows the registers. */
+static void handle_interrupts(struct controller *c, const uint8_t *block)
+{
+    uint8_t pending = block[AMV_REGISTER_PENDING];
+    c->steps++;
+    if (pending & AMV_STATUS_PACKET)
+        c->packets++;
+    if (pending & AMV_STATUS_REFUSED)
+        c->refusal = block[AMV_REGISTER_REFUSAL];
+    if (c->steps <= SHOWN_STEPS || pending & ~AMV_STATUS_PACKET)
+        show_registers(c, block);
+}
+
+/* Before each other step: acknowledges what is pending, and reads where nothing is. A bit interrupts where it rises, and packet would stay 1 from
+ * one read to the next: the step without a command lets it fall. Answers false where nothing is left to do, at the end and after a refusal. */
+static bool leave_next(struct controller *c, uint8_t *block)
+{
+    uint8_t pending = block[AMV_REGISTER_PENDING];
+    if (pending == 0 && (block[AMV_REGISTER_STATUS] & AMV_STATUS_END || c->refusal != 0))
+        return false;
+    leave_command(c, block, pending != 0 ? AMV_COMMAND_NONE : AMV_COMMAND_READ, pending);
+    return true;
+}
+
+/* After the last step. Cut is set once a read has found it, and stays. */
+static void show_outcome(const struct controller *c, const uint8_t *block)
+{
+    printf("packets: %" PRIu64 ", steps: %" PRIu64 "; ", c->packets, c->steps);
+    if (c->refusal != 0)
+        printf("refused with %d. %s No.\n", c->refusal, amv_question(c->refusal));
+    else if (block[AMV_REGISTER_STATUS] & AMV_STATUS_CUT)
+        printf("the recording is cut: it ends before its trailer\n");
+    else
+        printf("no read has found the recording cut\n");
+}
+
+/* The panel's side: it has the file, its index and the walker, and runs a step where the controller has left a command. */
+struct reader {
+    struct recording r;
+    struct table table;
+    uint64_t walker[AMV_WALKER_WORDS], packet[AMV_PACKET_WORDS];
+};
+
+/* The reader keeps all of a damaged file: a read that comes to the damage is refused, and the controller sees it. */
+static bool open_reader(const char *name, struct reader *reader)
+{
+    if (!open_recording(name, &reader->r))
+        return false;
+    size_t len = reader->r.len;
+    bool built = build_index(&reader->r, &reader->table);
+    reader->r.len = len;
+    return built;
+}
+
+/* Runs a step. It is refused where the block or its command is none; a read or seek that is refused is told in the block alone. */
+static bool run_step(struct reader *reader, uint8_t block[AMV_REGISTER_BLOCK_LEN])
+{
+    uint32_t number = amv_register_step(reader->r.file, reader->r.len, reader->table.records, reader->table.len, reader->walker, block,
+                                        AMV_REGISTER_BLOCK_LEN, reader->packet);
+    if (number != AMV_OK)
+        show_refusal("step", number, reader->packet);
+    return number == AMV_OK;
+}
+
+/* Shows the packet of the last step, where its read gave one. */
+static void show_given(const struct reader *reader)
+{
+    if (reader->packet[AMV_PACKET_IS_PACKET])
+        show_packet(&reader->r, reader->packet);
+}
+
+/* The two take turns: the panel runs a step, the controller looks at what became of it and leaves what comes next. */
+static bool take_turns(struct reader *reader, struct controller *c, uint8_t block[AMV_REGISTER_BLOCK_LEN])
+{
+    do {
+        if (!run_step(reader, block))
+            return false;
+        handle_interrupts(c, block);
+        if (c->steps <= SHOWN_STEPS)
+            show_given(reader);
+    } while (leave_next(c, block));
+    return c->refusal == 0;
+}
+
+/* All that the two have in common is the block. */
+static int drive(const char *name, int64_t picture)
+{
+    struct reader reader = {.walker = AMV_FRESH_WALKER};
+    struct controller controller = {0, 0, 0, 0, 0};
+    uint8_t block[AMV_REGISTER_BLOCK_LEN] = {0};
+    if (!open_reader(name, &reader))
+        return 1;
+    leave_seek(&controller, block, picture);
+    bool driven = take_turns(&reader, &controller, block);
+    show_outcome(&controller, block);
+    free(reader.table.records);
+    free(reader.r.file);
+    return driven ? 0 : 1;
+}
+
 /* What must be finished is asked strictly: every field, every chunk, the trailer, nothing after it. */
 static int check(const char *name)
 {
@@ -342,8 +510,11 @@ int main(int argc, char **argv)
         return print_index(argv[2]);
     if (argc == 3 && strcmp(argv[1], "hear") == 0)
         return hear(argv[2]);
+    if (argc == 4 && strcmp(argv[1], "drive") == 0)
+        return drive(argv[2], strtoll(argv[3], NULL, 10));
     if (argc == 3 && strcmp(argv[1], "check") == 0)
         return check(argv[2]);
-    fprintf(stderr, "usage: panel play FILE PICTURE\n       panel print FILE\n       panel hear FILE\n       panel check FILE\n");
+    fprintf(stderr, "usage: panel play FILE PICTURE\n       panel print FILE\n       panel hear FILE\n       panel drive FILE PICTURE\n"
+                    "       panel check FILE\n");
     return 2;
 }

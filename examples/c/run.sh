@@ -1,7 +1,8 @@
 #!/bin/sh
 # Builds the library and the two programs; records; checks and plays the recording, one that was cut, one that is damaged, and one as
-# another program would write it; prints the index of the recording; hears it, and the start of one with a block that is refused. Standard
-# output is what expected.txt stores.
+# another program would write it; prints the index of the recording; hears it, and the start of one with a block that is refused; drives a
+# reader by registers over the recording and the one that was cut, to a picture that is there and to one past the end, and over the damaged
+# one. Standard output is what expected.txt stores.
 set -eu
 root=$(dirname -- "$(readlink -f -- "$0")")/../..
 root=$(readlink -f -- "$root") me=example
@@ -38,3 +39,11 @@ with_bytes index.amv 703 '\131'
 head -c 2000 index.amv >wrong.amv
 echo
 ./panel hear wrong.amv || echo "(not all of it can be heard)"
+for name in vat cut; do
+    for picture in 12 99; do
+        echo
+        ./panel drive $name.amv $picture
+    done
+done
+echo
+./panel drive damaged.amv 12 || echo "(not all of it can be read)"
