@@ -131,12 +131,24 @@ fn races(runs: usize) {
     race("drain, frames and blocks", runs, count, |side| {
         (side.drain)(&paired)
     });
+    race("drain by steps, 16-byte frames", runs, count, |side| {
+        (side.steps)(&frames)
+    });
+    race("drain by steps, frames and blocks", runs, count, |side| {
+        (side.steps)(&paired)
+    });
     (LIBRARY.index)(&frames, &mut table);
     race(
         "seek, for a record of the table",
         runs.div_ceil(16),
         sides::SEEKS as usize * count,
         |side| (side.seeks)(&table),
+    );
+    race(
+        "seek by steps, for a record",
+        runs.div_ceil(16),
+        sides::SEEKS as usize * count,
+        |side| (side.seek_steps)(&table),
     );
     let mut page = vec![0; LINE * count];
     race("page, 60 KiB of 16-byte frames", runs, count, |side| {

@@ -7,6 +7,7 @@ use crate::grammar;
 use crate::interface::{LIBRARY, PLAIN};
 use crate::original::{self, Told};
 use crate::pages;
+use crate::registers;
 use crate::rules::{self, Expected};
 use crate::said::{Said, Write, accepted, refused};
 use crate::seeks;
@@ -154,9 +155,14 @@ pub struct Guarded<T> {
 }
 
 impl<T: Copy + PartialEq + From<u8>> Guarded<T> {
-    /// The start varies with the contents, so that aligned and unaligned buffers are both lent.
+    /// The start varies with the length, so that aligned and unaligned buffers are both lent.
     pub fn new(contents: &[T]) -> Self {
-        let start = 8 + contents.len() % 8;
+        Self::shifted(contents, contents.len())
+    }
+
+    /// The start varies with a number, for buffers that mostly have one length.
+    pub fn shifted(contents: &[T], number: usize) -> Self {
+        let start = 8 + number % 8;
         let mut entries = vec![0x5a.into(); start + contents.len() + 16];
         let end = start + contents.len();
         entries[start..end].copy_from_slice(contents);
@@ -328,6 +334,45 @@ fn told_seek(table: &[u8], mut state: Walker, stream: u32, request: i64) -> (Tol
     let records = original::read_table(table);
     let told = original::seek_to_via_index(&records, &mut state, stream, request);
     (told, state)
+}
+
+/// A step of the register block, over copies of file and table, which must stay. Walker and block become those that the plain implementation
+/// leaves. The original has no register block: what is said of every step takes its place.
+pub fn register_step(
+    tally: &mut Tally,
+    file: &[u8],
+    table: &[u8],
+    walker: &mut WalkerWords,
+    block: &mut [u8],
+) {
+    let (given, given_block) = (*walker, block.to_vec());
+    let plain = PLAIN.register_step(file, table, walker, block);
+    let mut library_walker = given;
+    let [mut lent_file, mut lent_table] = [file, table].map(Guarded::new);
+    let any = given_block.iter().map(|byte| usize::from(*byte)).sum();
+    let mut lent = Guarded::shifted(&given_block, any);
+    let (bytes, records) = (lent_file.lent(), lent_table.lent());
+    let library = LIBRARY.register_step(bytes, records, &mut library_walker, lent.lent());
+    let left_same = library_walker == *walker && lent.holds(block);
+    let read_only = lent_file.holds(file) && lent_table.holds(table);
+    let reader = registers::Reader {
+        file,
+        table,
+        walker: given,
+    };
+    let left = (library_walker, &*lent.lent());
+    let stands = registers::stands(&reader, &given_block, library, left);
+    let same = plain == library && left_same && read_only && stands;
+    tally.judge("register_step", same, || {
+        format!(
+            "block {} walker {given:?} table {} on {}: plain {plain:?} {walker:?} {}, library {library:?} {library_walker:?} {}, file and table stay {read_only}, stands {stands}",
+            hex(&given_block),
+            hex(table),
+            hex(file),
+            hex(block),
+            hex(lent.lent())
+        )
+    });
 }
 
 /// The page of a table, into lent bytes. The original has none: what is said of every page takes its place.

@@ -20,6 +20,16 @@ pub struct Interface {
     build_chunk_index: Filling,
     seek_to_via_index:
         unsafe extern "C" fn(*const u8, usize, *mut WalkerWords, u32, i64, Out<2>) -> u32,
+    register_step: unsafe extern "C" fn(
+        *const u8,
+        usize,
+        *const u8,
+        usize,
+        *mut WalkerWords,
+        *mut u8,
+        usize,
+        Out<7>,
+    ) -> u32,
     print_index: Filling,
     decode_block: unsafe extern "C" fn(*const u8, usize, *mut i16, usize, Out<2>) -> u32,
     summary: unsafe extern "C" fn(*const u8, usize, Out<3>) -> u32,
@@ -45,6 +55,7 @@ pub const LIBRARY: Interface = Interface {
     next_packet: c::amv_next_packet,
     build_chunk_index: c::amv_build_chunk_index,
     seek_to_via_index: c::amv_seek_to_via_index,
+    register_step: c::amv_register_step,
     print_index: c::amv_print_index,
     decode_block: c::amv_decode_block,
     summary: c::amv_summary,
@@ -62,6 +73,7 @@ pub const PLAIN: Interface = Interface {
     next_packet: words::next_packet,
     build_chunk_index: words::build_chunk_index,
     seek_to_via_index: words::seek_to_via_index,
+    register_step: words::register_step,
     print_index: words::print_index,
     decode_block: words::decode_block,
     summary: words::summary,
@@ -142,6 +154,26 @@ impl Interface {
         guarded(walker, |walker| {
             with_out(|out| unsafe {
                 (self.seek_to_via_index)(records, len, walker, stream, request, out)
+            })
+        })
+    }
+
+    /// A step on a block of any length, over a file and the records of an index.
+    pub fn register_step(
+        &self,
+        file: &[u8],
+        table: &[u8],
+        walker: &mut WalkerWords,
+        block: &mut [u8],
+    ) -> Said<7> {
+        let (bytes, len) = (start(file), file.len());
+        let (records, table_len) = (start(table), table.len());
+        let (registers, block_len) = (start_mut(block), block.len());
+        guarded(walker, |walker| {
+            with_out(|out| unsafe {
+                (self.register_step)(
+                    bytes, len, records, table_len, walker, registers, block_len, out,
+                )
             })
         })
     }

@@ -1,8 +1,8 @@
-//! Files, payloads and buffers at the file limit, and a printer's page and tables, a sound block and its samples past
-//! it. Their memory is zero until written, so they take little of it.
+//! Files, payloads and buffers at the file limit, and a printer's page and tables, a sound block and its samples, a register block and its
+//! file and table past it. Their memory is zero until written, so they take little of it.
 
 use plain::words::{WalkerWords, walker_words, writer_words};
-use plain::{FILE_LIMIT as LIMIT, PRELUDE, TRAILER, VIDEO, Walker, Writer};
+use plain::{FILE_LIMIT as LIMIT, PRELUDE, REGISTERS, TRAILER, VIDEO, Walker, Writer};
 
 use crate::interface::{Interface, LIBRARY, PLAIN};
 use crate::rules;
@@ -29,6 +29,7 @@ pub fn suite(tally: &mut Tally) {
     long_payload(tally, &file);
     writes(tally, &mut file);
     pages(tally, &mut file);
+    long_registers(tally, &mut file);
     long_block(tally, &mut file);
     long_samples(tally, &mut file);
     tally.equal("write_packet", 52, original::write_by_value(file), || {
@@ -78,6 +79,8 @@ fn within(tally: &mut Tally, file: &[u8]) {
     let packet = accepted(&[1, 0, 324, (LIMIT - PRELUDE - 16) as u64, 0, 1]);
     let left = [trailer, 1, 0, 0, 0, 0, u64::MAX];
     read(tally, file, (packet, left));
+    let block = [0, 1, 0xff, 1, 0, 0, 6, 7, 0, 0, 0, 0, 0, 0, 0, 0];
+    step(tally, file, &[], 1, (packet, left, block));
 }
 
 fn read(tally: &mut Tally, file: &[u8], expected: (Said<7>, WalkerWords)) {
@@ -87,6 +90,56 @@ fn read(tally: &mut Tally, file: &[u8], expected: (Said<7>, WalkerWords)) {
     let library = LIBRARY.next_packet(file, &mut library_walker);
     let library = (library, library_walker);
     judge(tally, "next_packet", expected, (plain, walker), library);
+}
+
+/// A frame's record: frames, blocks and samples before it differ.
+const FRAME_RECORD: plain::Record = plain::Record {
+    tag: VIDEO,
+    offset: 316,
+    frames: 2,
+    blocks: 3,
+    samples: 4,
+};
+
+/// A register block with that command, and the request 1; every bit may interrupt.
+fn block_of(command: u8) -> [u8; REGISTERS] {
+    [command, 0, 0xff, 0, 0, 9, 6, 7, 1, 0, 0, 0, 0, 0, 0, 0]
+}
+
+/// A step of such a block from a fresh walker: answer, walker and block after it.
+fn step(
+    tally: &mut Tally,
+    file: &[u8],
+    table: &[u8],
+    command: u8,
+    expected: (Said<7>, WalkerWords, [u8; REGISTERS]),
+) {
+    let [plain, library] = [PLAIN, LIBRARY].map(|side| {
+        let mut walker = walker_words(&Walker::fresh());
+        let mut block = block_of(command);
+        let said = side.register_step(file, table, &mut walker, &mut block);
+        (said, walker, block)
+    });
+    judge(tally, "register_step", expected, plain, library);
+}
+
+/// Of a file past the limit a read is refused, which the block shows; a seek and the command 0 do not ask about it.
+fn steps_beyond(tally: &mut Tally, file: &[u8]) {
+    let fresh = walker_words(&Walker::fresh());
+    let at_record = [316, 2, 4, 3, 0, 0, u64::MAX];
+    let at_end = [324, 3, 4, 3, 1, 0, u64::MAX];
+    for (command, walker, [status, refusal, stamp]) in [
+        (0, fresh, [0, 0, 1]),
+        (1, fresh, [8, 10, 1]),
+        (2, at_record, [0, 0, 2]),
+        (3, at_end, [2, 0, 4]),
+    ] {
+        let left = [
+            0, status, 0xff, status, 0, refusal, 6, 7, stamp, 0, 0, 0, 0, 0, 0, 0,
+        ];
+        let expected = (accepted(&[]), walker, left);
+        step(tally, file, &FRAME_RECORD.bytes(), command, expected);
+    }
 }
 
 /// A byte more than the limit is 10 everywhere. The original has no limit: it answers as for the file without that byte.
@@ -107,6 +160,7 @@ fn beyond(tally: &mut Tally, file: &[u8]) {
     );
     let fresh = walker_words(&Walker::fresh());
     read(tally, file, (refused(10, 0), fresh));
+    steps_beyond(tally, file);
     let (mut table, mut library_table) = ([0xc3; 24], [0xc3; 24]);
     let plain = PLAIN.build_chunk_index(file, &mut table);
     let library = LIBRARY.build_chunk_index(file, &mut library_table);
@@ -206,16 +260,9 @@ const WRAPS: usize = 1 << 32;
 
 /// A page and tables whose lengths need more than 32 bits: what 32 bits keep of each would be answered otherwise.
 fn pages(tally: &mut Tally, bytes: &mut [u8]) {
-    let record = plain::Record {
-        tag: VIDEO,
-        offset: 316,
-        frames: 2,
-        blocks: 3,
-        samples: 4,
-    };
     let mut print = |interface: Interface| {
         bytes[..80].fill(0xc3);
-        let said = interface.print_index(&record.bytes(), &mut bytes[..WRAPS + 39]);
+        let said = interface.print_index(&FRAME_RECORD.bytes(), &mut bytes[..WRAPS + 39]);
         (said, bytes[..80].to_vec())
     };
     let line = b"V       316         2                  4";
@@ -226,6 +273,26 @@ fn pages(tally: &mut Tally, bytes: &mut [u8]) {
         let table = &bytes[..table_len];
         let [plain, library] = [PLAIN, LIBRARY].map(|side| side.print_index(table, &mut []));
         judge(tally, "print_index", refused(number, 0), plain, library);
+    }
+}
+
+/// A block of registers, and tables of its seek, whose lengths need more than 32 bits: what 32 bits keep of each would be answered otherwise.
+fn long_registers(tally: &mut Tally, bytes: &mut [u8]) {
+    let given = block_of(1);
+    let mut run = |side: Interface| {
+        bytes[..REGISTERS].copy_from_slice(&given);
+        let mut walker = walker_words(&Walker::fresh());
+        let said = side.register_step(&[], &[], &mut walker, &mut bytes[..WRAPS + REGISTERS]);
+        (said, walker, bytes[..REGISTERS].to_vec())
+    };
+    let fresh = walker_words(&Walker::fresh());
+    let expected = (refused(74, 0), fresh, given.to_vec());
+    judge(tally, "register_step", expected, run(PLAIN), run(LIBRARY));
+    bytes[..REGISTERS].fill(0);
+    for (table_len, number) in [(WRAPS + 8, 43), (WRAPS + 24, 41)] {
+        let left = [0, 8, 0xff, 8, 0, number, 6, 7, 1, 0, 0, 0, 0, 0, 0, 0];
+        let expected = (accepted(&[]), fresh, left);
+        step(tally, &[], &bytes[..table_len], 2, expected);
     }
 }
 

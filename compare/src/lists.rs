@@ -12,8 +12,9 @@ use crate::random::Random;
 use crate::said::{Said, Write, accepted, refused, said_read};
 use crate::tally::{Tally, hex};
 
+/// A read or a seek.
 #[derive(Clone, Copy, Debug)]
-enum Call {
+pub enum Call {
     Read,
     Seek(u32, i64),
 }
@@ -30,7 +31,8 @@ fn calls_for(random: &mut Random, packets: &[(Packet, [u64; 4])]) -> Vec<Call> {
         .collect()
 }
 
-fn near_a_stamp(random: &mut Random, packets: &[(Packet, [u64; 4])]) -> i64 {
+/// A request at or beside the stamp of one of the packets.
+pub fn near_a_stamp(random: &mut Random, packets: &[(Packet, [u64; 4])]) -> i64 {
     if packets.is_empty() {
         return 0;
     }
@@ -39,20 +41,29 @@ fn near_a_stamp(random: &mut Random, packets: &[(Packet, [u64; 4])]) -> i64 {
 }
 
 /// The plain machine: a position among the chunks; their number is the end.
-struct Machine<'a> {
+pub struct Machine<'a> {
     packets: &'a [(Packet, [u64; 4])],
     position: usize,
 }
 
-impl Machine<'_> {
-    fn read(&mut self) -> Option<Packet> {
+impl<'a> Machine<'a> {
+    /// At the first chunk.
+    pub fn new(packets: &'a [(Packet, [u64; 4])]) -> Self {
+        Self {
+            packets,
+            position: 0,
+        }
+    }
+
+    /// The packet at the position, none at the end.
+    pub fn read(&mut self) -> Option<Packet> {
         let (packet, _) = self.packets.get(self.position)?;
         self.position += 1;
         Some(*packet)
     }
 
     /// The stamp of the chunk that the seek goes to, none at the end.
-    fn seek(&mut self, stream: u32, request: i64) -> Answer<Option<u64>> {
+    pub fn seek(&mut self, stream: u32, request: i64) -> Answer<Option<u64>> {
         ask(stream <= 1, 42, 0)?;
         let found = self.packets.iter().position(|(packet, _)| {
             packet.stream == stream && packet.stamp as i128 >= request as i128
@@ -63,7 +74,7 @@ impl Machine<'_> {
 }
 
 /// One of those that run the list, each with a walker of its own.
-trait Side {
+pub trait Side {
     fn read(&mut self) -> Said<7>;
     fn seek(&mut self, stream: u32, request: i64) -> Said<2>;
     /// Cursor, frames, samples, blocks.
@@ -71,15 +82,16 @@ trait Side {
 }
 
 /// The library or the plain implementation, each with the index that it built.
-struct WordsSide<'a> {
+pub struct WordsSide<'a> {
     interface: Interface,
     file: &'a [u8],
     index: Vec<u8>,
-    walker: WalkerWords,
+    pub walker: WalkerWords,
 }
 
 impl<'a> WordsSide<'a> {
-    fn new(interface: Interface, file: &'a [u8], records: usize) -> Self {
+    /// With a fresh walker, and room for exactly so many records.
+    pub fn new(interface: Interface, file: &'a [u8], records: usize) -> Self {
         let mut index = vec![0; plain::RECORD * records];
         interface.build_chunk_index(file, &mut index);
         Self {
@@ -88,6 +100,13 @@ impl<'a> WordsSide<'a> {
             index,
             walker: words::walker_words(&Walker::fresh()),
         }
+    }
+
+    /// A step of the register block.
+    pub fn step(&mut self, block: &mut [u8]) -> Said<7> {
+        let (index, walker) = (&self.index, &mut self.walker);
+        self.interface
+            .register_step(self.file, index, walker, block)
     }
 }
 
@@ -107,10 +126,22 @@ impl Side for WordsSide<'_> {
     }
 }
 
-struct OriginalSide<'a> {
+/// The original, with the same records.
+pub struct OriginalSide<'a> {
     file: original::File,
     records: &'a [plain::Record],
     walker: Walker,
+}
+
+impl<'a> OriginalSide<'a> {
+    /// With a fresh walker.
+    pub fn new(file: &[u8], records: &'a [plain::Record]) -> Self {
+        Self {
+            file: original::File::new(file),
+            records,
+            walker: Walker::fresh(),
+        }
+    }
 }
 
 impl Side for OriginalSide<'_> {
@@ -142,11 +173,7 @@ pub fn reads_and_seeks(tally: &mut Tally, random: &mut Random, file: &[u8]) {
     let packets = grammar::drain(file, &chunks);
     let list = calls_for(random, &packets);
     let records = plain::records(file).unwrap();
-    let mut original = OriginalSide {
-        file: original::File::new(file),
-        records: &records,
-        walker: Walker::fresh(),
-    };
+    let mut original = OriginalSide::new(file, &records);
     let mut plain = WordsSide::new(PLAIN, file, records.len());
     let mut library = WordsSide::new(LIBRARY, file, records.len());
     let sides: [(_, &mut dyn Side); 3] = [
@@ -168,20 +195,14 @@ fn run(
     list: &[Call],
     side: &mut dyn Side,
 ) {
-    let mut machine = Machine {
-        packets,
-        position: 0,
-    };
+    let mut machine = Machine::new(packets);
     for (i, call) in list.iter().enumerate() {
         let same = step(&mut machine, side, *call);
         tally.judge(name, same, || {
             format!("call {i} of {list:?} on {}", hex(file))
         });
     }
-    let at = packets.get(machine.position).map(|(_, before)| *before);
-    let placed = at.is_none_or(|before| before == side.position());
-    let left = left_same(&mut machine, side);
-    tally.judge(name, placed && left, || {
+    tally.judge(name, ends_same(&mut machine, side), || {
         format!("what is left after {list:?} on {}", hex(file))
     });
 }
@@ -199,6 +220,13 @@ fn step(machine: &mut Machine, side: &mut dyn Side, call: Call) -> bool {
             }
         }
     }
+}
+
+/// What is left after a list: at a chunk the side's position is the chunk's, and its reads give the packets from there on.
+pub fn ends_same(machine: &mut Machine, side: &mut dyn Side) -> bool {
+    let at = machine.packets.get(machine.position);
+    let placed = at.is_none_or(|(_, before)| *before == side.position());
+    placed && left_same(machine, side)
 }
 
 /// Reads until the first End.

@@ -20,6 +20,7 @@ mod pages;
 mod pieces;
 mod programs;
 mod random;
+mod registers;
 mod rules;
 mod said;
 mod seeks;

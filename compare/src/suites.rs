@@ -10,6 +10,7 @@ use crate::original;
 use crate::pages;
 use crate::pieces;
 use crate::random::Random;
+use crate::registers;
 use crate::said::Write;
 use crate::seeks;
 use crate::sounds;
@@ -51,6 +52,7 @@ pub fn exhaustive(tally: &mut Tally, random: &mut Random) {
     tag_lists(tally);
     run_lengths(tally);
     seeks::short(tally);
+    registers::short(tally);
     pages::short(tally);
     sounds::short(tally);
     for _ in 0..20 {
@@ -154,6 +156,7 @@ pub fn round(tally: &mut Tally, random: &mut Random) {
     whole_file(tally, &file, slack);
     walkers(tally, random, &file);
     tables(tally, random);
+    registers::round(tally, random, &file);
     pages::round(tally, random);
     sounds::round(tally, random);
     writers(tally, random);
@@ -161,6 +164,7 @@ pub fn round(tally: &mut Tally, random: &mut Random) {
     let file = files::finished(random);
     whole_file(tally, &file, RECORD);
     lists::reads_and_seeks(tally, random, &file);
+    registers::list(tally, random, &file);
     pages::of_recording(tally, &file);
 }
 
@@ -176,7 +180,8 @@ fn random_tags(random: &mut Random) -> Vec<u32> {
         .collect()
 }
 
-fn random_walker(random: &mut Random, file_len: u64) -> WalkerWords {
+/// The words of an arbitrary walker, now and then out of range or of no walker; its cursor is mostly near the file.
+pub fn random_walker(random: &mut Random, file_len: u64) -> WalkerWords {
     let cursor = match random.below(4) {
         0 => random.word(),
         1 => file_len.wrapping_sub(random.below(24)),
@@ -244,8 +249,8 @@ fn random_record(random: &mut Random, good: bool) -> Record {
     }
 }
 
-/// Arbitrary tables and walkers for a seek.
-fn tables(tally: &mut Tally, random: &mut Random) {
+/// A table of arbitrary records, now and then with one that is refused or with a part of one more.
+pub fn random_table(random: &mut Random) -> Vec<u8> {
     let good = !random.once_in(3);
     let count = random.size(6);
     let mut table: Vec<u8> = (0..count)
@@ -255,7 +260,12 @@ fn tables(tally: &mut Tally, random: &mut Random) {
         let more = 1 + random.size(RECORD);
         table.extend(random.bytes(more));
     }
-    let mut lent = Guarded::new(&table);
+    table
+}
+
+/// Arbitrary tables and walkers for a seek.
+fn tables(tally: &mut Tally, random: &mut Random) {
+    let mut lent = Guarded::new(&random_table(random));
     let table = &*lent.lent();
     for _ in 0..6 {
         let mut walker = random_walker(random, 400);

@@ -1,7 +1,9 @@
 //! Answers, stored: the calls as bytes that the program `vectors` replays, and what it must print. Those here are the original's: only
-//! calls that it answers as 01 does are taken, and where its text names no place, the place is 01's. What it does not have is in `stated`.
+//! calls that it answers as 01 does are taken, and where its text names no place, the place is 01's. What it does not have is in `stated` and
+//! `steps`.
 
 mod stated;
+mod steps;
 
 use std::fmt::Write as _;
 use std::fs;
@@ -33,9 +35,10 @@ const LISTING: (u8, &str) = (12, "listing");
 const PRINT_INDEX: (u8, &str) = (13, "print_index");
 const DECODE_BLOCK: (u8, &str) = (14, "decode_block");
 const CHUNK_HEADER: (u8, &str) = (15, "chunk_header");
+const REGISTER_STEP: (u8, &str) = (16, "register_step");
 
 /// In the order of the counts that the program prints last.
-const FUNCTIONS: [(u8, &str); 15] = [
+const FUNCTIONS: [(u8, &str); 16] = [
     PARSE,
     NEXT_PACKET,
     BUILD_CHUNK_INDEX,
@@ -51,6 +54,7 @@ const FUNCTIONS: [(u8, &str); 15] = [
     PRINT_INDEX,
     DECODE_BLOCK,
     CHUNK_HEADER,
+    REGISTER_STEP,
 ];
 
 /// Where the tags, sizes and bodies of a prelude start.
@@ -67,12 +71,12 @@ const CALLS: usize = 524_288;
 struct Cases {
     calls: Vec<u8>,
     printed: String,
-    counts: [u64; 16],
+    counts: [u64; 17],
     /// How many calls were not taken, since the original answers otherwise.
     left_out: u64,
 }
 
-/// A call's bytes: a file, a table to read, a payload or tags; and the bytes that it is lent to write.
+/// A call's bytes: a file, a table to read, a payload, tags, or a file and then a table; and the bytes that it is lent to write.
 struct Call<'a> {
     function: (u8, &'static str),
     bytes: &'a [u8],
@@ -558,6 +562,7 @@ pub fn store(folder: &Path) {
     headers(&mut cases);
     let of_the_original = cases.counts;
     stated::all(&mut cases);
+    steps::all(&mut cases);
     cases.print_counts();
     assert!(cases.calls.len() < CALLS);
     fs::write(folder.join("stdin"), &cases.calls).unwrap();

@@ -31,6 +31,17 @@ pub fn seek_to_via_index(
     crate::seek_to_via_index(table, walker, stream, request)
 }
 
+/// A step of the register block.
+#[inline(never)]
+pub fn register_step(
+    file: &[u8],
+    table: &[u8],
+    walker: &mut Walker,
+    block: &mut [u8],
+) -> Answer<Option<Packet>> {
+    crate::register_step(file, table, walker, block)
+}
+
 /// The page.
 #[inline(never)]
 pub fn print_index(table: &[u8], page: &mut [u8]) -> Answer<u64> {

@@ -16,6 +16,7 @@
 //!
 //! - M-100, a page for the printer: `page`; what it asks of a table first, and a jump too, is `good_records` in `index`
 //! - M-101, hear the paste: `sound`, by the rule, which is compared, and by a table, which is timed
+//! - M-106, the register block: `registers`, over a read and a jump
 //!
 //! Where a call on a state asks questions first and then acts, the acting part is a function of its own. The rules for known differences
 //! in `compare/` use it to say what the original, which does not ask, answers instead.
@@ -30,6 +31,7 @@ mod head;
 mod index;
 mod page;
 mod prelude;
+mod registers;
 mod seek;
 mod sound;
 mod walker;
@@ -40,6 +42,7 @@ pub use finished::{Totals, check, validate_movi_interleave};
 pub use index::{Record, build_chunk_index, records, summary};
 pub use page::{LINE, print_index};
 pub use prelude::{Header, Prelude, Settings, Wave, build_prelude_bytes, parse, parse_strict};
+pub use registers::{REGISTERS, register_step};
 pub use seek::{jump, seek_to_via_index};
 pub use sound::{PREAMBLE, STEPS, decode_block, decode_block_by_table};
 pub use walker::{Packet, Walker, next_packet, read_on};

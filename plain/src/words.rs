@@ -280,6 +280,28 @@ pub unsafe extern "C" fn seek_to_via_index(
     }
 }
 
+/// A step of the register block.
+#[inline(never)]
+pub unsafe extern "C" fn register_step(
+    file: *const u8,
+    len: usize,
+    table: *const u8,
+    table_len: usize,
+    walker: *mut WalkerWords,
+    block: *mut u8,
+    block_len: usize,
+    out: *mut [u64; 7],
+) -> u32 {
+    unsafe {
+        let (file, table) = (slice(file, len), slice(table, table_len));
+        let block = slice_mut(block, block_len);
+        let step = with_walker(walker, |walker| {
+            crate::register_step(file, table, walker, block)
+        });
+        store(step, out, read_out)
+    }
+}
+
 /// The page.
 #[inline(never)]
 pub unsafe extern "C" fn print_index(

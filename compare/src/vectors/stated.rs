@@ -15,19 +15,19 @@ use crate::{files, listing, sounds};
 
 /// 2^62, and a number past it.
 const MOST: u64 = 4_611_686_018_427_387_904;
-const OVER: u64 = 4_611_686_018_427_387_905;
+pub const OVER: u64 = 4_611_686_018_427_387_905;
 
 /// 10^18, and 2^64 - 1.
 const MANY: u64 = 1_000_000_000_000_000_000;
-const LAST: u64 = 18_446_744_073_709_551_615;
+pub const LAST: u64 = 18_446_744_073_709_551_615;
 
 /// A walker's word where no trailer was met.
-const NOT_MET: u64 = LAST;
+pub const NOT_MET: u64 = LAST;
 
-const FRESH: WalkerWords = [316, 0, 0, 0, 0, 0, NOT_MET];
+pub const FRESH: WalkerWords = [316, 0, 0, 0, 0, 0, NOT_MET];
 
 /// A call of a whole file, or of a table to read.
-fn call_of<'a>(function: (u8, &'static str), bytes: &'a [u8]) -> Call<'a> {
+pub fn call_of<'a>(function: (u8, &'static str), bytes: &'a [u8]) -> Call<'a> {
     Call {
         function,
         bytes,
@@ -208,7 +208,7 @@ fn after_prelude(bytes: &[u8]) -> Vec<u8> {
 }
 
 /// E with one byte changed.
-fn example_with(at: usize, byte: u8) -> Vec<u8> {
+pub fn example_with(at: usize, byte: u8) -> Vec<u8> {
     let mut file = files::example();
     assert_ne!(file[at], byte);
     file[at] = byte;
@@ -450,7 +450,7 @@ fn reads(cases: &mut Cases) {
 }
 
 /// E's index with these tags and samples before.
-fn index_of(first: (&[u8; 4], u64), second: (&[u8; 4], u64)) -> Vec<u8> {
+pub fn index_of(first: (&[u8; 4], u64), second: (&[u8; 4], u64)) -> Vec<u8> {
     let record = |(tag, samples): (&[u8; 4], u64), offset, frames| {
         plain::Record {
             tag: u32::from_le_bytes(*tag),
