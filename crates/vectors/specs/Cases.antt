@@ -1,16 +1,16 @@
 -- How a stored case is taken apart. Assumes nothing.
 use mathlib.Core.Path.{_≡_}
-use Prim.Native.Nat.{ℕ, zero, suc, _+_, _*_, _%_, _≤_, _<_}
+use Prim.Native.Nat.{ℕ, zero, suc, _+_, _*_, _%_, _≤_, _<_, min}
 use mathlib.Core.Bool.{cond}
 use mathlib.Core.List.{List, [], _∷_, _++_}
 use lib.Dec.{eqb}
 use lib.IntN.{ℤ, pos, negsuc}
-use lib.ListN.{length, getD}
+use lib.ListN.{length, take, drop, getD}
 use Rattle.fields.specs.Le.{le}
 use Rattle.chunk_index.specs.Index.{buildOf}
 use Rattle.page.specs.Page.{printOf}
 use Rattle.muxer.specs.Writer.{headerCall, packetCall, trailerCall}
-use Rattle.capi.specs.Calls.{bufferAfterCall}
+use Rattle.capi.specs.Calls.{blockAfterCall, bufferAfterCall}
 use Rattle.vectors.specs.declared.case.CaseAt.{CaseAt}
 use Rattle.vectors.specs.declared.case.CaseAt.the-variants.{Whole, Short}
 
@@ -53,10 +53,22 @@ tagsIn bytes (suc n) = tagsIn bytes n ++ (le 4 bytes (4 * n) ∷ [])
 abbrev pub streamIn : List ℕ → ℕ
 streamIn head = getD head 0 0 % 4294967296
 
--- the lent bytes after a case's call: a table, a page, or a writer's buffer
+-- the file and the table in a step's bytes: the file first, as long as the first word says, or all of them where it says more
+abbrev pub fileLen : List ℕ → List ℕ → ℕ
+fileLen bytes head = min (length bytes) (getD head 0 0)
+
+abbrev pub fileIn : List ℕ → List ℕ → List ℕ
+fileIn bytes head = take (fileLen bytes head) bytes
+
+abbrev pub tableIn : List ℕ → List ℕ → List ℕ
+tableIn bytes head = drop (fileLen bytes head) bytes
+
+-- the lent bytes after a case's call: a table, a page, a register block, or a writer's buffer
 abbrev pub lentAfter : ℕ → List ℕ → List ℕ → List ℕ → List ℕ
 lentAfter function bytes head lent =
     cond (eqb function 3) (buildOf bytes lent .table)
     (cond (eqb function 4) (bufferAfterCall (λ w. headerCall w lent) (writerIn head) lent)
     (cond (eqb function 5) (bufferAfterCall (λ w. packetCall w bytes (streamIn head) lent) (writerIn head) lent)
-    (cond (eqb function 13) (printOf bytes lent .page) (bufferAfterCall (λ w. trailerCall w lent) (writerIn head) lent))))
+    (cond (eqb function 13) (printOf bytes lent .page)
+    (cond (eqb function 16) (blockAfterCall (fileIn bytes head) (tableIn bytes head) (walkerIn head) lent)
+    (bufferAfterCall (λ w. trailerCall w lent) (writerIn head) lent)))))

@@ -55,14 +55,17 @@ impl Functions {
     // The header of a chunk at an offset of a file.
     pub const CHUNK_HEADER: usize = 15;
 
+    // A step of the register block, again a call that writes to lent bytes.
+    pub const REGISTER_STEP: usize = 16;
+
     // One more than the last number, for a table of counts by function.
-    pub const COUNT: usize = 16;
+    pub const COUNT: usize = 17;
 }
 
 // The function of a case's first byte. Refuses none: a case of no function is run as the first, so that no case is passed over.
 pub fn function_of(byte: u8) -> usize
-    ensures { λ r. ⌜ r ≡ cond (ltb byte 16) byte 1 ⌝ }
-    ensures { λ r. ⌜ r < 16 ⌝ }
+    ensures { λ r. ⌜ r ≡ cond (ltb byte 17) byte 1 ⌝ }
+    ensures { λ r. ⌜ r < 17 ⌝ }
 {
     if (byte as usize) < Functions::COUNT {
         byte as usize

@@ -32,6 +32,7 @@ fn print_counts(counts: [u64; Functions::COUNT]) {
     print_count(b"print_index", counts[Functions::PRINT_INDEX]);
     print_count(b"decode_block", counts[Functions::DECODE_BLOCK]);
     print_count(b"chunk_header", counts[Functions::CHUNK_HEADER]);
+    print_count(b"register_step", counts[Functions::REGISTER_STEP]);
 }
 
 // Every case in turn, then how many there were of each function.

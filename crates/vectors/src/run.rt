@@ -25,8 +25,8 @@ ghost use Rattle.chunk_index.specs.Index.{buildOf};
 ghost use Rattle.page.specs.Page.{printOf};
 ghost use Rattle.sound.specs.Sound.{decodeOf};
 ghost use Rattle.muxer.specs.Writer.{headerCall, packetCall, trailerCall};
-ghost use Rattle.capi.specs.Calls.{bufferAfterCall};
-ghost use Rattle.vectors.specs.Cases.{requestOf, tagsIn, walkerIn, writerIn, streamIn, lentAfter};
+ghost use Rattle.capi.specs.Calls.{blockAfterCall, bufferAfterCall};
+ghost use Rattle.vectors.specs.Cases.{requestOf, tagsIn, walkerIn, writerIn, streamIn, fileIn, tableIn, lentAfter};
 
 // The longest table, buffer or list of tags of a case.
 const BYTES_ROOM: usize = 1024;
@@ -162,6 +162,24 @@ fn run_print_index(table: &[u8], page: &mut [u8])
     print_call(b"print_index", number);
     print_2(out);
     print_bytes(page);
+    print_end();
+}
+
+// A case of a step has the file and then the table first. The file's length is the first word; one past the bytes takes all of them.
+fn run_register_step(bytes: &[u8], head: [u64; 12], block: &mut [u8])
+    ensures { λ _. ⌜ now (block .exit)
+        ≡ blockAfterCall (fileIn (now (bytes .entry)) head) (tableIn (now (bytes .entry)) head) (walkerIn head) (now (block .entry)) ⌝ }
+{
+    let mut walker = head_walker(head);
+    let mut out = [0u64; 7];
+    let len = least(bytes.len(), head[0] as usize);
+    let file = &bytes[..len];
+    let table = &bytes[len..];
+    let number = capi::amv_register_step(file, table, &mut walker, block, &mut out);
+    print_call(b"register_step", number);
+    print_7(out);
+    print_7(walker);
+    print_bytes(block);
     print_end();
 }
 
@@ -326,6 +344,8 @@ fn run_writing(function: usize, bytes: &[u8], lent: &mut [u8], head: [u64; 12])
         run_write_packet(head, lent, bytes);
     } else if function == Functions::PRINT_INDEX {
         run_print_index(bytes, lent);
+    } else if function == Functions::REGISTER_STEP {
+        run_register_step(bytes, head, lent);
     } else {
         run_write_trailer(head, lent);
     }
@@ -333,9 +353,12 @@ fn run_writing(function: usize, bytes: &[u8], lent: &mut [u8], head: [u64; 12])
 
 // Whether a function is one of those that write to lent bytes.
 fn writes(function: usize) -> bool
-    ensures { λ r. ⌜ r ≡ (eqb function 13 || (leb 3 function && leb function 6)) ⌝ }
+    ensures { λ r. ⌜ r ≡ (eqb function 13 || (eqb function 16 || (leb 3 function && leb function 6))) ⌝ }
 {
     if function == Functions::PRINT_INDEX {
+        return true;
+    }
+    if function == Functions::REGISTER_STEP {
         return true;
     }
     if function < Functions::BUILD_CHUNK_INDEX {

@@ -1,4 +1,4 @@
--- `vectors::replay` is safe and ends; it has no contract of its own. The invariant of its loop: `at` is at most the input's length, and there are 16
+-- `vectors::replay` is safe and ends; it has no contract of its own. The invariant of its loop: `at` is at most the input's length, and there are 17
 -- counts. The measure is the length less `at`. `whole` says where the parts of a case stand, and a case takes 113 bytes or more.
 -- Assumes nothing.
 use mathlib.Core.Path.{_≡_, refl}
@@ -13,7 +13,7 @@ use Rattle.vectors.proofs.replay.Statement.{statement}
 use Rattle.vectors.proofs.replay.Tie as tie
 
 abbrev Inv-loop : tie.InvT-loop
-Inv-loop input counts₀ at₀ counts at = (at ≤ length input) × (length counts ≡ 16)
+Inv-loop input counts₀ at₀ counts at = (at ≤ length input) × (length counts ≡ 17)
 
 abbrev μ-loop : tie.MeasureT-loop
 μ-loop input counts₀ at₀ counts at = length input - at

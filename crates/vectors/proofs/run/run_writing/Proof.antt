@@ -18,6 +18,9 @@ run-write-packet-requires c κs = search needs
 run-print-index-requires : tie.Need-run-print-index-requires
 run-print-index-requires c κs = search needs
 
+run-register-step-requires : tie.Need-run-register-step-requires
+run-register-step-requires c κs = search needs
+
 run-write-trailer-requires : tie.Need-run-write-trailer-requires
 run-write-trailer-requires c κs = search needs
 
@@ -63,10 +66,26 @@ returns-5 : tie.Need-returns-5
 returns-5 c =
     let t = c .before .before .before .before in
     rw (
-      ne-eqb _ _ (t .before .before .before .if1 .left),
-      ne-eqb _ _ (t .before .before .if2 .left),
-      ne-eqb _ _ (t .before .if3 .left),
-      ne-eqb _ _ (t .if4 .left),
+      ne-eqb _ _ (t .before .before .before .before .if1 .left),
+      ne-eqb _ _ (t .before .before .before .if2 .left),
+      ne-eqb _ _ (t .before .before .if3 .left),
+      ne-eqb _ _ (t .before .if4 .left),
+      eq-eqb _ _ (t .if5 .taken),
+    )
+    (c .before .before .run-register-step .ensures)
+
+same-length-6 : tie.Need-same-length-6
+same-length-6 c = search needs
+
+returns-6 : tie.Need-returns-6
+returns-6 c =
+    let t = c .before .before .before .before in
+    rw (
+      ne-eqb _ _ (t .before .before .before .before .if1 .left),
+      ne-eqb _ _ (t .before .before .before .if2 .left),
+      ne-eqb _ _ (t .before .before .if3 .left),
+      ne-eqb _ _ (t .before .if4 .left),
+      ne-eqb _ _ (t .if5 .left),
     )
     (c .before .before .run-write-trailer .ensures)
 
@@ -78,6 +97,7 @@ run-writing-spec =
     run-write-header-requires
     run-write-packet-requires
     run-print-index-requires
+    run-register-step-requires
     run-write-trailer-requires
     same-length
     returns
@@ -88,4 +108,6 @@ run-writing-spec =
     same-length-4
     returns-4
     same-length-5
-    returns-5)
+    returns-5
+    same-length-6
+    returns-6)
