@@ -1,4 +1,4 @@
--- The operations on bytes, bit by bit. Assumes nothing.
+-- The operations on bytes, bit by bit, and pending of single blocks. Assumes nothing.
 use mathlib.Core.Path.{_≡_, refl, ap, _∙_}
 use Prim.Native.Nat.{ℕ, zero, suc, _+_, _-_, _/_, _%_, _^_, _≤_, _<_}
 use mathlib.Core.Bool.{Bool, true, false, not, cond, _&&_, _||_}
@@ -7,7 +7,27 @@ use native.Mathlib.Omega.{arith}
 use lib.Bits.{bitAnd, bitOr, and-shr, or-shr, and-mod, or-mod}
 use lib.Dec.{eqb}
 use lib.Pow.{pow-mono}
+use mathlib.Core.List.{[], _∷_}
+use Rattle.registers.specs.Registers.{pendingOf}
 use Rattle.registers.specs.Sentences.{bit}
+
+-- ---- pending of single blocks, computed: each has another number where its rule is left out or its order exchanged. A block's first five bytes
+-- are command, status, enable, pending and acknowledge; the new status stands after it.
+
+-- acknowledged and raised in one step
+acknowledged-raised : pendingOf (0 ∷ 0 ∷ 1 ∷ 1 ∷ 1 ∷ []) 1 ≡ 1
+unfolding pendingOf
+acknowledged-raised = refl
+
+-- enabled, and 1 before
+already-one : pendingOf (0 ∷ 1 ∷ 1 ∷ 0 ∷ 0 ∷ []) 1 ≡ 0
+unfolding pendingOf
+already-one = refl
+
+-- raised, and not enabled
+not-enabled : pendingOf (0 ∷ 0 ∷ 0 ∷ 0 ∷ 0 ∷ []) 1 ≡ 0
+unfolding pendingOf
+not-enabled = refl
 
 -- ---- two digits
 
