@@ -34,11 +34,11 @@ use Rattle.walk.specs.declared.Kind.{Kind}
 use Rattle.walk.specs.declared.Kind.the-variants.{Frame, Sound}
 use Rattle.walk.specs.Chunks.{Chunk, chunkOf, chunkBytes, chunksBytes, Lengths, walkOf}
 use Rattle.finished.specs.Check.{passes, tagsOf, checkFrom, allPaired, checkChunks, checkOf}
+use Rattle.walk.proofs.Chunked.{length-chunk}
 use Rattle.recording.specs.Check.{chunkTags, totalsOf, CheckIsGrammar}
 use Rattle.finished.specs.declared.Totals.{Totals}
 use Rattle.recording.specs.Drain.{frames, samples, blocks}
 use Rattle.recording.specs.Grammar.{Finished}
-use Rattle.recording.proofs.Positions.{length-chunk}
 use Rattle.recording.proofs.Tables.{finished-walk}
 
 -- ---- a finished file is accepted

@@ -21,6 +21,7 @@ use Rattle.walk.specs.declared.Kind.{Kind}
 use Rattle.walk.specs.declared.Kind.the-variants.{Frame, Sound}
 use Rattle.walk.specs.Chunks.{Chunk, chunkOf, chunkBytes, chunksBytes, Lengths}
 use Rattle.walk.specs.Walk.{kindTag}
+use Rattle.walk.proofs.Chunked.{length-chunk}
 use Rattle.recording.specs.Drain.{drainFrom, frames, samples, blocks}
 
 -- past a whole chunk
@@ -81,10 +82,6 @@ here p (suc k) (chunkOf kind payload ∷ cs) l h =
     }
 
 -- ---- the bytes before chunk k and those from it on
-
-pub length-chunk : (kind : Kind) (payload : List ℕ) → length (chunkBytes (chunkOf kind payload)) ≡ 8 + length payload
-unfolding chunkBytes leBytes
-length-chunk kind payload = omega arith
 
 pub chunks-split : (k : ℕ) (cs : List Chunk) → chunksBytes cs ≡ chunksBytes (take k cs) ++ chunksBytes (drop k cs)
 unfolding chunksBytes

@@ -24,9 +24,10 @@ use Rattle.walk.specs.Chunks.{Chunk, chunkOf, chunkBytes, chunksBytes}
 use Rattle.chunk_index.specs.Entry.{entryLen, entry}
 use Rattle.table.specs.Table.{askEach, goodEntry}
 use Rattle.seek.specs.Seek.{stampOf, reaches, find, beyond, pastLast}
+use Rattle.walk.proofs.Chunked.{length-chunk}
 use Rattle.recording.specs.Drain.{drainFrom}
 use Rattle.recording.specs.Machine.{first}
-use Rattle.recording.proofs.Positions.{passed, shownAt, positionAt, drainAt, drain-cons, stepped, length-chunk, bytes-payload}
+use Rattle.recording.proofs.Positions.{passed, shownAt, positionAt, drainAt, drain-cons, stepped, bytes-payload}
 use Rattle.recording.proofs.Tables.{marks}
 
 -- the machine's test of a packet

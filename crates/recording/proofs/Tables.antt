@@ -27,11 +27,11 @@ use Rattle.chunk_index.specs.Entry.{entryLen, entry, entryBytes, tableBytes, en
 use Rattle.chunk_index.specs.Steps.{Small}
 use Rattle.chunk_index.specs.Index.{Built, builtFrom, buildOf, recorded, records, tagsKnown, indexOf}
 use Rattle.chunk_index.specs.declared.entry.ChunkIndexEntry.{ChunkIndexEntry}
-use Rattle.walk.proofs.Chunked.{tag-held, chunks-walked}
+use Rattle.walk.proofs.Chunked.{length-chunk, tag-held, chunks-walked}
 use Rattle.chunk_index.proofs.Entries.{entry-back, length-entryBytes, length-table}
 use Rattle.recording.specs.Grammar.{Finished}
 use Rattle.recording.specs.Machine.{OwnIndex}
-use Rattle.recording.proofs.Positions.{passed, Bounded, stepped, length-chunk, bytes-payload}
+use Rattle.recording.proofs.Positions.{passed, Bounded, stepped, bytes-payload}
 
 -- the records of chunks from a position on
 unfoldable pub marks : Position → List Chunk → List ChunkIndexEntry

@@ -40,24 +40,37 @@ pub on-head : (file : List ℕ) (at : ℕ) (kind : Kind) (size : ℕ) → onHead
 on-head file at Frame size = refl
 on-head file at Sound size = refl
 
--- one chunk, after xs and before ys
+-- how many bytes a chunk takes
+pub length-chunk : (kind : Kind) (payload : List ℕ) → length (chunkBytes (chunkOf kind payload)) ≡ 8 + length payload
+unfolding chunkBytes leBytes
+length-chunk kind payload = omega arith
+
+-- the walk past a chunk whose header and payload stand at an offset
+pub walked-past-chunk : (file : List ℕ) (at : ℕ) (kind : Kind) (payload : List ℕ) → headAt file at ≡ headOf kind (length payload)
+    → payloadAt file at (length payload) ≡ payload → walk file at ≡ chunk kind payload 0 (walk file (at + (8 + length payload)))
+unfolding stepAt
+walked-past-chunk file at kind payload e p =
+    let n : ℕ = length payload in
+    let m : n - n ≡ 0 = omega arith in
+    let g = step-means file at (step.Chunk (chunkAt file at kind n)) (ap (onHead file at) e ∙ on-head file at kind n) in
+    g .is
+    ∙ ap (λ (l : List ℕ). chunk kind l (n - length l) (walk file (at + (8 + n)))) p
+    ∙ ap (λ (k : ℕ). chunk kind payload k (walk file (at + (8 + n)))) m
+
+-- a chunk after xs and before ys: its header
+pub chunk-head : (xs ys payload : List ℕ) (kind : Kind) → length payload ≤ payloadLimit
+    → headAt (xs ++ (leBytes 4 (kindTag kind) ++ (leBytes 4 (length payload) ++ (payload ++ ys)))) (length xs) ≡ headOf kind (length payload)
+chunk-head xs ys payload kind h =
+    let n : ℕ = length payload in
+    chunk-suffix xs (payload ++ ys) (kindTag kind) n (tag-held kind) (omega arith) (tag-no-trailer kind n) ∙ tag-head kind n
+
+-- and the walk past it
 chunk-walked : (xs ys payload : List ℕ) (kind : Kind) → length payload ≤ payloadLimit
     → walk (xs ++ (leBytes 4 (kindTag kind) ++ (leBytes 4 (length payload) ++ (payload ++ ys)))) (length xs)
     ≡ chunk kind payload 0
     (walk (xs ++ (leBytes 4 (kindTag kind) ++ (leBytes 4 (length payload) ++ (payload ++ ys)))) (length xs + (8 + length payload)))
-unfolding stepAt
 chunk-walked xs ys payload kind h =
-    let file : List ℕ = xs ++ (leBytes 4 (kindTag kind) ++ (leBytes 4 (length payload) ++ (payload ++ ys))) in
-    let n : ℕ = length payload in
-    let p : payloadAt file (length xs) n ≡ payload = payload-suffix xs payload ys (kindTag kind) n in
-    let e : headAt file (length xs) ≡ headOf kind n =
-    chunk-suffix xs (payload ++ ys) (kindTag kind) n (tag-held kind) (omega arith) (tag-no-trailer kind n) ∙ tag-head kind n in
-    let m : n - n ≡ 0 = omega arith in
-    let g = step-means file (length xs) (step.Chunk (chunkAt file (length xs) kind n))
-    (ap (onHead file (length xs)) e ∙ on-head file (length xs) kind n) in
-    g .is
-    ∙ ap (λ (l : List ℕ). chunk kind l (n - length l) (walk file (length xs + (8 + n)))) p
-    ∙ ap (λ (k : ℕ). chunk kind payload k (walk file (length xs + (8 + n)))) m
+    walked-past-chunk _ (length xs) kind payload (chunk-head xs ys payload kind h) (payload-suffix xs payload ys (kindTag kind) (length payload))
 
 trailer-walked : (xs ys : List ℕ) → walk (xs ++ (trailerBytes ++ ys)) (length xs) ≡ stop (trailer (length ys))
 unfolding stepAt leBytes
