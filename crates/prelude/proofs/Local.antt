@@ -14,9 +14,8 @@ use Rattle.error.specs.Answer.{Answer, numbered, andThen}
 use Rattle.error.specs.declared.Refusal.{Refusal}
 use Rattle.fields.proofs.Laws.{le-take}
 use Rattle.fields.specs.File.{withinLimit, fileLimit}
-use Rattle.prelude.specs.Layout.{preludeLen, layout, askWord, askBody, askItem, askItems}
+use Rattle.prelude.specs.Layout.{preludeLen, layout, endOf, askWord, askBody, askItem, askItems}
 use Rattle.prelude.specs.Prelude.{preludeFields, parseOf, zeros, zeroRanges, validatedOf, strictOf}
-use Rattle.prelude.specs.Steps.{Within}
 use Rattle.prelude.specs.declared.layout.LayoutItem.{LayoutItem}
 use Rattle.prelude.specs.declared.layout.LayoutItem.the-variants.{Tag, Size, Body}
 use Rattle.prelude.specs.declared.prelude.AmvPrelude.{AmvPrelude}
@@ -29,28 +28,29 @@ take-drop-take (suc k) n m [] h = rw (take-nil m)
 take-drop-take (suc k) n zero (x ∷ xs) h = absurd (omega arith)
 take-drop-take (suc k) n (suc m) (x ∷ xs) h = take-drop-take k n m xs (omega arith)
 
--- whether n bytes are there, with n at most the length of a prelude
-reach-local : (file : List ℕ) (n : ℕ) → n ≤ preludeLen → leb n (length (take preludeLen file)) ≡ leb n (length file)
-reach-local file n h =
+-- an item that ends within the first m bytes is asked of them as of the file: whether n of them are there ..
+reach-local : (m : ℕ) (file : List ℕ) (n : ℕ) → n ≤ m → leb n (length (take m file)) ≡ leb n (length file)
+reach-local m file n h =
     elim (decLe n (length file)) [
-      | yes l ↦ le-leb n (length (take preludeLen file)) (simp length-take (omega arith)) ∙ sym (le-leb n (length file) l)
-      | no l ↦ lt-leb n (length (take preludeLen file)) (simp length-take (omega (arith, lt-of-not-le l))) ∙ sym (lt-leb n (length file) (lt-of-not-le l))
+      | yes l ↦ le-leb n (length (take m file)) (simp length-take (omega arith)) ∙ sym (le-leb n (length file) l)
+      | no l ↦ lt-leb n (length (take m file)) (simp length-take (omega (arith, lt-of-not-le l))) ∙ sym (lt-leb n (length file) (lt-of-not-le l))
     ]
 
-word-local : (file : List ℕ) (place value : ℕ) (wrong : Refusal) → place + 4 ≤ preludeLen
-    → askWord (take preludeLen file) place value wrong ≡ askWord file place value wrong
+-- .. and which
+word-local : (m : ℕ) (file : List ℕ) (place value : ℕ) (wrong : Refusal) → place + 4 ≤ m
+    → askWord (take m file) place value wrong ≡ askWord file place value wrong
 unfolding askWord
-word-local file place value wrong h = rw (reach-local file (place + 4) h, le-take 4 preludeLen file place h)
+word-local m file place value wrong h = rw (reach-local m file (place + 4) h, le-take 4 m file place h)
 
-item-local : (file : List ℕ) (item : LayoutItem) → Within item → askItem (take preludeLen file) item ≡ askItem file item
-item-local file (Tag place value) h = word-local file place value (numbered 12 place) h
-item-local file (Size place value) h = word-local file place value (numbered 13 place) h
-item-local file (Body place len) h = unfold askBody in rw (reach-local file (place + len) h)
+pub item-local : (m : ℕ) (file : List ℕ) (item : LayoutItem) → endOf item ≤ m → askItem (take m file) item ≡ askItem file item
+item-local m file (Tag place value) h = word-local m file place value (numbered 12 place) h
+item-local m file (Size place value) h = word-local m file place value (numbered 13 place) h
+item-local m file (Body place len) h = unfold askBody in rw (reach-local m file (place + len) h)
 
 items-local : (file : List ℕ) (items : List LayoutItem) → AllWithin items → askItems (take preludeLen file) items ≡ askItems file items
 unfolding askItems
 items-local file [] t = refl
-items-local file (item ∷ items) t = rw (item-local file item (t .0), items-local file items (t .1))
+items-local file (item ∷ items) t = rw (item-local preludeLen file item (t .0), items-local file items (t .1))
 
 fields-local : (file : List ℕ) → preludeFields (take preludeLen file) ≡ preludeFields file
 unfolding preludeFields

@@ -50,6 +50,17 @@ layout =
     ∷ Tag 208 LIST ∷ Tag 216 strl ∷ Tag 220 strh ∷ Size 224 48 ∷ Tag 276 strf ∷ Size 280 20 ∷ Body 284 20
     ∷ Tag 304 LIST ∷ Tag 312 movi ∷ []
 
+-- where an item starts, and where it ends
+abbrev pub startOf : LayoutItem → ℕ
+startOf (Tag place value) = place
+startOf (Size place value) = place
+startOf (Body place width) = place
+
+abbrev pub endOf : LayoutItem → ℕ
+endOf (Tag place value) = place + 4
+endOf (Size place value) = place + 4
+endOf (Body place width) = place + width
+
 -- what stands past the last item: nothing, at the first chunk
 abbrev pub past : LayoutItem
 past = Body preludeLen 0

@@ -1,18 +1,16 @@
 -- Steps on the way: what functions below the calls promise each other. Nothing here need be believed. Assumes nothing.
-use Prim.Native.Nat.{ℕ, _+_, _≤_}
+use Prim.Native.Nat.{ℕ, _≤_}
 use mathlib.Core.List.{List, [], _∷_}
 use Rattle.fields.specs.Capped.{quotient}
 use Rattle.fields.specs.Le.{putLe}
 use Rattle.parse.specs.WaveFormat.{averageOf}
-use Rattle.prelude.specs.Layout.{preludeLen}
+use Rattle.prelude.specs.Layout.{preludeLen, endOf}
 use Rattle.prelude.specs.declared.layout.LayoutItem.{LayoutItem}
 use Rattle.prelude.specs.declared.layout.LayoutItem.the-variants.{Tag, Size, Body}
 
 -- the item ends within the prelude
 abbrev pub Within : LayoutItem → Type 0
-Within (Tag place value) = place + 4 ≤ preludeLen
-Within (Size place value) = place + 4 ≤ preludeLen
-Within (Body place len) = place + len ≤ preludeLen
+Within item = endOf item ≤ preludeLen
 
 abbrev pub writeItem : List ℕ → LayoutItem → List ℕ
 writeItem bytes (Tag place value) = putLe 4 bytes place value
