@@ -192,10 +192,18 @@ module _ (s : Settings) (held : Held s) (fps-positive : 0 < s .fps) (one-channel
 
   -- ---- one call
 
+  -- accepted
+  record Moves (w : Writer) (cs : List Chunk) (c : WriteCall) (o : WriteOutcome) : Type 0 where
+    passed : o .answer ≡ accepted tt
+    state : State (o .writer) (o .buffer) (cs ++ chunksFor c)
+    sends : sentOf (chunksFor c) ≡ sentBy (c ∷ [])
+    was-going : w .ended ≡ false
+    begun : o .writer .begun ≡ true
+    ended : c ≡ trailer → o .writer .ended ≡ true
+
   data Turn (w : Writer) (buf : List ℕ) (cs : List Chunk) (c : WriteCall) (o : WriteOutcome) : Type 0 where
     stays : (r : Refusal) → o ≡ record { answer = refused r; writer = w; buffer = buf } → Turn w buf cs c o
-    moves : w .ended ≡ false → o .answer ≡ accepted tt → State (o .writer) (o .buffer) (cs ++ chunksFor c)
-        → sentOf (chunksFor c) ≡ sentBy (c ∷ []) → (c ≡ trailer → o .writer .ended ≡ true) → Turn w buf cs c o
+    moves : Moves w cs c o → Turn w buf cs c o
 
   refuses : (w : Writer) (buf : List ℕ) (cs : List Chunk) (c : WriteCall) (o : WriteOutcome) (r : Refusal) → o .answer ≡ refused r
       → (o .writer ≡ w) × (o .buffer ≡ buf) → Turn w buf cs c o
@@ -210,14 +218,20 @@ module _ (s : Settings) (held : Held s) (fps-positive : 0 < s .fps) (one-channel
           let p = header-fresh w buf e in
           let t = header-accepted w buf e in
           let k = is-idle w buf cs i (p .fresh) in
-          moves (p .going) e
-          (under-way (record {
-            ready = rw (t .writer) (t .ready);
-            file = t .file ∙ ap preludeFor (k .same) ∙ rw (append-nil, k .none) (unfold chunksBytes in (sym (append-nil (preludeWith 0))));
-            lengths = rw (append-nil, k .none) tt;
-          }))
-          (unfold sentBy in refl)
-          (λ q. impossible cc)
+          let r : Open (headerCall w buf .writer) = rw (t .writer) (t .ready) in
+          moves (record {
+            passed = e;
+            state =
+                under-way (record {
+                  ready = r;
+                  file = t .file ∙ ap preludeFor (k .same) ∙ rw (append-nil, k .none) (unfold chunksBytes in (sym (append-nil (preludeWith 0))));
+                  lengths = rw (append-nil, k .none) tt;
+                });
+            sends = unfold sentBy in refl;
+            was-going = p .going;
+            begun = r .begun;
+            ended = λ q. impossible cc;
+          })
 
   packet-turn : (w : Writer) (buf : List ℕ) (cs : List Chunk) (payload : List ℕ) (stream : ℕ) → State w buf cs
       → Turn w buf cs (packet payload stream) (packetCall w payload stream buf)
@@ -229,18 +243,24 @@ module _ (s : Settings) (held : Held s) (fps-positive : 0 < s .fps) (one-channel
           let t = packet-accepted w payload stream buf e in
           let c : Chunk = chunkOf (kindFor stream) payload in
           let k = is-going w buf cs i (t .passed .ready) in
-          moves (t .passed .ready .going) e
-          (under-way (record {
-            ready = rw (t .writer) (t .ready);
-            file = t .file
-                ∙ ap (λ (xs : List ℕ). xs ++ packetBytes stream payload) (k .file)
-                ∙ ap (λ (xs : List ℕ). (preludeWith 0 ++ chunksBytes cs) ++ xs) (packet-chunk stream payload)
-                ∙ append-assoc (preludeWith 0) (chunksBytes cs) (chunkBytes c)
-                ∙ ap (λ (xs : List ℕ). preludeWith 0 ++ xs) (sym (chunks-snoc cs c));
-            lengths = lengths-snoc cs (kindFor stream) payload (k .lengths) (t .passed .short);
-          }))
-          (packet-sent stream payload (t .passed .known))
-          (λ q. impossible cc)
+          let r : Open (packetCall w payload stream buf .writer) = rw (t .writer) (t .ready) in
+          moves (record {
+            passed = e;
+            state =
+                under-way (record {
+                  ready = r;
+                  file = t .file
+                      ∙ ap (λ (xs : List ℕ). xs ++ packetBytes stream payload) (k .file)
+                      ∙ ap (λ (xs : List ℕ). (preludeWith 0 ++ chunksBytes cs) ++ xs) (packet-chunk stream payload)
+                      ∙ append-assoc (preludeWith 0) (chunksBytes cs) (chunkBytes c)
+                      ∙ ap (λ (xs : List ℕ). preludeWith 0 ++ xs) (sym (chunks-snoc cs c));
+                  lengths = lengths-snoc cs (kindFor stream) payload (k .lengths) (t .passed .short);
+                });
+            sends = packet-sent stream payload (t .passed .known);
+            was-going = t .passed .ready .going;
+            begun = r .begun;
+            ended = λ q. impossible cc;
+          })
 
   -- a file of the prelude, the chunks and the trailer, patched
   closed : (w : Writer) (buf file : List ℕ) (cs : List Chunk) → Going w buf cs → file ≡ patchRunLength w (fileOf w buf ++ trailerBytes)
@@ -272,14 +292,16 @@ module _ (s : Settings) (held : Held s) (fps-positive : 0 < s .fps) (one-channel
           let m = t .passed .limit in
           let l : length (fileOf (trailerCall w buf .writer) (trailerCall w buf .buffer)) ≤ fileLimit =
           omega (arith, length-take (trailerCall w buf .writer .written) (trailerCall w buf .buffer)) in
-          moves (r .going) e
-          (over (record {
-            begun = ap (λ (x : Writer). x .begun) (t .writer) ∙ r .begun;
-            ended = ap (λ (x : Writer). x .ended) (t .writer);
-            finished = rw append-nil (closed w buf _ cs k (t .file) l);
-          }))
-          (unfold sentBy in refl)
-          (λ q. ap (λ (x : Writer). x .ended) (t .writer))
+          let b : trailerCall w buf .writer .begun ≡ true = ap (λ (x : Writer). x .begun) (t .writer) ∙ r .begun in
+          let d : trailerCall w buf .writer .ended ≡ true = ap (λ (x : Writer). x .ended) (t .writer) in
+          moves (record {
+            passed = e;
+            state = over (record { begun = b; ended = d; finished = rw append-nil (closed w buf _ cs k (t .file) l) });
+            sends = unfold sentBy in refl;
+            was-going = r .going;
+            begun = b;
+            ended = λ q. d;
+          })
 
   turn : (w : Writer) (buf : List ℕ) (cs : List Chunk) (c : WriteCall) → State w buf cs → Turn w buf cs c (writeStep w buf c)
   unfolding writeStep
@@ -289,45 +311,64 @@ module _ (s : Settings) (held : Held s) (fps-positive : 0 < s .fps) (one-channel
 
   -- ---- a list of calls
 
-  -- more chunks, which send what the accepted calls do
-  record FileLeft (cs : List Chunk) (file : List ℕ) (calls : List WriteCall) : Type 0 where
+  -- from a writer with chunks to the last one: more chunks, which send what the accepted calls do, and the marks
+  record Left (w : Writer) (cs : List Chunk) (last : Writer) (buf : List ℕ) (said : List WriteCall) : Type 0 where
     chunks : List Chunk
-    finished : Finished file (cs ++ chunks)
-    sends : sentOf chunks ≡ sentBy calls
+    state : State last buf (cs ++ chunks)
+    sends : sentOf chunks ≡ sentBy said
+    begins : List·Memᴰ header said ⊎ (w .begun ≡ true) → last .begun ≡ true
+    ends : List·Memᴰ trailer said ⊎ (w .ended ≡ true) → last .ended ≡ true
 
-  abbrev Ends : Writer → List ℕ → List WriteCall → Type 0
-  Ends w buf calls = List·Memᴰ trailer (acceptedCalls w buf calls) ⊎ (w .ended ≡ true)
-
-  left-on : (cs : List Chunk) (file : List ℕ) (c : WriteCall) (calls : List WriteCall) → sentOf (chunksFor c) ≡ sentBy (c ∷ [])
-      → FileLeft (cs ++ chunksFor c) file calls → FileLeft cs file (c ∷ calls)
-  left-on cs file c calls e l =
+  left-on : (w : Writer) (cs : List Chunk) (c : WriteCall) (o : WriteOutcome) (last : Writer) (buf : List ℕ) (said : List WriteCall) → Moves w cs c o
+      → Left (o .writer) (cs ++ chunksFor c) last buf said → Left w cs last buf (c ∷ said)
+  left-on w cs c o last buf said m l =
       record {
         chunks = chunksFor c ++ l .chunks;
-        finished = rw (← append-assoc cs (chunksFor c) (l .chunks)) (l .finished);
+        state = rw (← append-assoc cs (chunksFor c) (l .chunks)) (l .state);
         sends = sent-append (chunksFor c) (l .chunks)
-            ∙ ap (λ (x : List Sent). x ++ sentOf (l .chunks)) e
+            ∙ ap (λ (x : List Sent). x ++ sentOf (l .chunks)) (m .sends)
             ∙ ap (λ (x : List Sent). sentBy (c ∷ []) ++ x) (l .sends)
-            ∙ sym (sent-cons c calls);
+            ∙ sym (sent-cons c said);
+        begins = λ _. l .begins (inr (m .begun));
+        ends = ended;
       }
+    where
+      ended : List·Memᴰ trailer (c ∷ said) ⊎ (w .ended ≡ true) → last .ended ≡ true
+      ended (inl k) = elim (List·Memᴰ·cases-cons k) [ inl x ↦ l .ends (inr (m .ended (sym x))) | inr x ↦ l .ends (inl x) ]
+      ended (inr e) = false-true e (m .was-going)
 
   one-on : (w : Writer) (buf : List ℕ) (cs : List Chunk) (c : WriteCall) (calls : List WriteCall) (o : WriteOutcome) → State w buf cs → Turn w buf cs c o
-      → (List·Memᴰ trailer (kept (o .answer) c (acceptedCalls (o .writer) (o .buffer) calls)) ⊎ (w .ended ≡ true))
-      → ((v : Writer) (b : List ℕ) (ds : List Chunk) → State v b ds → Ends v b calls → FileLeft ds (writtenFile v b calls) (acceptedCalls v b calls))
-      → FileLeft cs (writtenFile (o .writer) (o .buffer) calls) (kept (o .answer) c (acceptedCalls (o .writer) (o .buffer) calls))
-  one-on w buf cs c calls o i (stays r e) m ih = rw e (ih w buf cs i (rw e at m))
-  one-on w buf cs c calls o i (moves n e j q f) (inr m) ih = false-true m n
-  one-on w buf cs c calls o i (moves n e j q f) (inl m) ih =
-      let l : List WriteCall = acceptedCalls (o .writer) (o .buffer) calls in
-      let k : List·Memᴰ trailer (c ∷ l) = rw e at m in
-      let h : Ends (o .writer) (o .buffer) calls = elim (List·Memᴰ·cases-cons k) [ inl x ↦ inr (f (sym x)) | inr x ↦ inl x ] in
-      rw e (left-on cs (writtenFile (o .writer) (o .buffer) calls) c l q (ih (o .writer) (o .buffer) (cs ++ chunksFor c) j h))
+      → ((v : Writer) (b : List ℕ) (ds : List Chunk) → State v b ds
+      → Left v ds (writerAfter v b calls) (bufferAfter v b calls) (acceptedCalls v b calls))
+      → Left w cs (writerAfter (o .writer) (o .buffer) calls) (bufferAfter (o .writer) (o .buffer) calls)
+      (kept (o .answer) c (acceptedCalls (o .writer) (o .buffer) calls))
+  one-on w buf cs c calls o i (stays r e) ih = rw e (ih w buf cs i)
+  one-on w buf cs c calls o i (moves m) ih =
+      rw (m .passed)
+      (left-on w cs c o (writerAfter (o .writer) (o .buffer) calls) (bufferAfter (o .writer) (o .buffer) calls)
+      (acceptedCalls (o .writer) (o .buffer) calls) m (ih (o .writer) (o .buffer) (cs ++ chunksFor c) (m .state)))
 
-  run : (w : Writer) (buf : List ℕ) (cs : List Chunk) (calls : List WriteCall) → State w buf cs → Ends w buf calls
-      → FileLeft cs (writtenFile w buf calls) (acceptedCalls w buf calls)
+  run : (w : Writer) (buf : List ℕ) (cs : List Chunk) (calls : List WriteCall) → State w buf cs
+      → Left w cs (writerAfter w buf calls) (bufferAfter w buf calls) (acceptedCalls w buf calls)
   unfolding writerAfter bufferAfter acceptedCalls
-  run w buf cs [] i (inl m) = absurd (List·Memᴰ·not-nil m)
-  run w buf cs [] i (inr e) = record { chunks = []; finished = rw append-nil (is-over w buf cs i e); sends = unfold sentBy in refl }
-  run w buf cs (c ∷ calls) i m = one-on w buf cs c calls (writeStep w buf c) i (turn w buf cs c i) m (λ v b ds j h. run v b ds calls j h)
+  run w buf cs [] i =
+      record {
+        chunks = [];
+        state = rw append-nil i;
+        sends = unfold sentBy in refl;
+        begins = none;
+        ends = none;
+      }
+    where
+      none : {c : WriteCall} {b : Bool} → List·Memᴰ c [] ⊎ (b ≡ true) → b ≡ true
+      none (inl k) = absurd (List·Memᴰ·not-nil k)
+      none (inr e) = e
+  run w buf cs (c ∷ calls) i = one-on w buf cs c calls (writeStep w buf c) i (turn w buf cs c i) (λ v b ds j. run v b ds calls j)
+
+  -- from a fresh writer
+  from-fresh : (buf : List ℕ) (calls : List WriteCall)
+      → Left (fresh s) [] (writerAfter (fresh s) buf calls) (bufferAfter (fresh s) buf calls) (acceptedCalls (fresh s) buf calls)
+  from-fresh buf calls = run (fresh s) buf [] calls (idle (record { begun = refl; going = refl; same = refl; none = refl }))
 
 -- ---- demand 3 for the writer
 
@@ -335,9 +376,13 @@ written : (s : Settings) (buf : List ℕ) (calls : List WriteCall) → Completed
     → Drains (writtenFile (fresh s) buf calls) (acceptedCalls (fresh s) buf calls)
 written s buf calls c =
     let k = c .closed in
-    let i = idle (record { begun = refl; going = refl; same = refl; none = refl }) in
-    let l = run s (c .held) (k .fps-positive) (k .one-channel) (fresh s) buf [] calls i (inl (k .ended)) in
-    record { chunks = l .chunks; finished = l .finished; drains = sent-drained 0 0 (l .chunks) ∙ l .sends }
+    let l = from-fresh s (c .held) (k .fps-positive) (k .one-channel) buf calls in
+    let over = l .ends (inl (k .ended)) in
+    record {
+      chunks = l .chunks;
+      finished = is-over s (c .held) (k .fps-positive) (k .one-channel) _ _ _ (l .state) over;
+      drains = sent-drained 0 0 (l .chunks) ∙ l .sends;
+    }
 
 -- the chunks of a walk
 abbrev chunksIn : Walk → List Chunk
