@@ -4,9 +4,10 @@ pub mod Tables
 pub mod Seeks
 pub mod Readings
 pub mod Lists
+pub mod Drains
+pub mod Summaries
 pub mod Writes
 pub mod Numbers
 pub mod Runs
 pub mod ByValue
-pub mod Summaries
 pub mod Together

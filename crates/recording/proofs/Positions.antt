@@ -20,7 +20,7 @@ use Rattle.demuxer.specs.declared.position.Position.{Position}
 use Rattle.walk.specs.declared.Kind.{Kind}
 use Rattle.walk.specs.declared.Kind.the-variants.{Frame, Sound}
 use Rattle.walk.specs.Chunks.{Chunk, chunkOf, chunkBytes, chunksBytes, Lengths}
-use Rattle.walk.specs.Walk.{kindTag}
+use Rattle.walk.specs.Walk.{kindTag, pastBy}
 use Rattle.walk.proofs.Chunked.{length-chunk}
 use Rattle.recording.specs.Drain.{drainFrom, frames, samples, blocks}
 
@@ -28,6 +28,12 @@ use Rattle.recording.specs.Drain.{drainFrom, frames, samples, blocks}
 abbrev pub passed : Position → Kind → List ℕ → Position
 passed p Frame payload = pastFrame p (length payload)
 passed p Sound payload = pastSound p (length payload) (countOf payload)
+
+-- which is past one of its length and count
+pub past-passed : (p : Position) (kind : Kind) (payload : List ℕ) {size : ℕ} → length payload ≡ size
+    → pastBy p kind size (countOf payload) ≡ passed p kind payload
+past-passed p Frame payload e = ap (pastFrame p) (sym e)
+past-passed p Sound payload e = ap (λ (n : ℕ). pastSound p n (countOf payload)) (sym e)
 
 -- the packet of a chunk that stands at a position
 abbrev pub shownAt : Position → Kind → List ℕ → Shown

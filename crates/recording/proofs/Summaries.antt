@@ -1,48 +1,41 @@
--- The summary counts what reads give. Of every file, by induction along its walk: a read past a whole chunk gives its packet, and one at a chunk
--- that is cut gives End, as at the trailer and where the file runs out. Of a finished recording, by its chunks. Assumes nothing.
-use mathlib.Core.Path.{_≡_, refl, sym, ap, _∙_, subst}
-use mathlib.Core.Bool.{false}
+-- The summary counts what reads give. Of every file these are the packets of the whole chunks of its walk, and so are the counts, by induction along
+-- it; of a finished recording, by its chunks. Assumes nothing.
+use mathlib.Core.Path.{_≡_, refl, sym, ap, _∙_}
 use mathlib.Core.List.{List, [], _∷_}
-use Prim.Native.Nat.{ℕ, zero, suc, _+_, _≤_, _<_}
+use Prim.Native.Nat.{ℕ, zero, suc, _+_, _-_, _<_}
 use native.Mathlib.Nat.{add-zero, zero-add}
 use native.Mathlib.Omega.{arith}
 use borrow.Author.Tests.{le-leb, leb-true}
 use lib.ListN.{length}
 use Rattle.error.specs.Answer.{accepted, andThen}
-use Rattle.error.proofs.Answers.{never, accepted-same, then-accepted, ask-passed}
+use Rattle.error.proofs.Answers.{accepted-same, then-accepted, ask-passed}
 use Rattle.fields.specs.File.{fileLimit, withinLimit}
 use Rattle.fields.specs.Le.{Bytes}
 use Rattle.prelude.specs.Layout.{preludeLen}
-use Rattle.demuxer.specs.Head.{headAt}
 use Rattle.demuxer.specs.Packet.{Shown}
 use Rattle.demuxer.specs.Position.{start}
-use Rattle.demuxer.specs.Read.{Reading, packet, End, fresh, advanced, payloadAt, readHead, readOf}
-use Rattle.demuxer.specs.declared.head.Head.{Head}
-use Rattle.demuxer.specs.declared.head.Head.the-variants as head
+use Rattle.demuxer.specs.Read.{fresh, payloadAt}
 use Rattle.demuxer.specs.declared.position.Position.{Position}
-use Rattle.demuxer.specs.declared.walker.Walker.{Walker}
-use Rattle.demuxer.proofs.Sentences.{looks}
 use Rattle.walk.specs.Chunks.{Chunk, chunkOf, walkOf}
-use Rattle.walk.specs.Steps.{pastAt, Walked}
-use Rattle.walk.specs.Walk.{chunkAt, onHead, stepAt, walk, fileWalk}
+use Rattle.walk.specs.Steps.{pastAt}
+use Rattle.walk.specs.Walk.{stepAt, Stop, ranOut, trailer, unknownTag, stop, walk, fileWalk}
 use Rattle.walk.specs.declared.ChunkAt.{ChunkAt}
 use Rattle.walk.specs.declared.Kind.{Kind}
 use Rattle.walk.specs.declared.Kind.the-variants.{Frame, Sound}
+use Rattle.walk.specs.declared.Step.{Step}
 use Rattle.walk.specs.declared.Step.the-variants as step
-use Rattle.walk.proofs.Walks.{Goes, step-means, whole-inside, cut-outside, past-cursor, along}
-use Rattle.walk.proofs.Chunked.{headOf, on-head}
-use Rattle.walk.proofs.Walked.{walked-start, walked-range, walked-past}
+use Rattle.walk.proofs.Walks.{Goes, step-means, past-cursor, along}
 use Rattle.chunk_index.specs.Index.{tagsKnown, indexOf}
 use Rattle.chunk_index.specs.Sentences.{tagged, recordCounts}
 use Rattle.chunk_index.specs.Summary.{noneCounted, counted, countsFrom, summaryOf}
 use Rattle.chunk_index.specs.declared.summary.ChunkCounts.{ChunkCounts}
-use Rattle.chunk_index.proofs.Folds.{whole-recorded, known-on, same-counts, counts-whole, counts-cut}
+use Rattle.chunk_index.proofs.Folds.{same-counts, counts-whole, counts-cut}
 use Rattle.recording.specs.Grammar.{Finished}
-use Rattle.recording.specs.Drain.{frames, blocks}
-use Rattle.recording.specs.Machine.{PacketsLeft, none-left, one-more}
-use Rattle.recording.specs.Summary.{ofStream, SummaryIsDrain}
-use Rattle.recording.proofs.Positions.{passed, shownAt}
-use Rattle.recording.proofs.Readings.{read-whole, read-cut}
+use Rattle.recording.specs.Drain.{drain, drainFrom, frames, blocks}
+use Rattle.recording.specs.Machine.{PacketsLeft}
+use Rattle.recording.specs.Summary.{ofStream, packetCounts, SummaryIsDrain}
+use Rattle.recording.proofs.Positions.{passed, past-passed, shownAt, drainAt, drain-cons}
+use Rattle.recording.proofs.Drains.{wholesOf, wholes-past, wholes-cut, reads-drain, packets-left}
 use Rattle.recording.proofs.Tables.{marks, recorded-whole, tags-known, finished-walk, index-marks}
 
 -- ---- every file
@@ -51,138 +44,79 @@ use Rattle.recording.proofs.Tables.{marks, recorded-whole, tags-known, 
 abbrev onTop : ChunkCounts → List Shown → ChunkCounts
 onTop s ps = record { frames = s .frames + ofStream 0 ps; blocks = s .blocks + ofStream 1 ps }
 
--- packets that reads of a walker give, and counts t that are theirs on top of s
-record Plays (file : List ℕ) (w : Walker) (s t : ChunkCounts) : Type 0 where
-  packets : List Shown
-  left : PacketsLeft file w packets
-  counts-are : t ≡ onTop s packets
-
--- no packet
-plays-none : (file : List ℕ) (w : Walker) (s : ChunkCounts) → readOf file w .answer ≡ End → Plays file w s s
+-- of none, and of one more
+on-none : (s : ChunkCounts) → s ≡ onTop s []
 unfolding ofStream
-plays-none file w s e =
-    record {
-      packets = [];
-      left = none-left e;
-      counts-are = same-counts (sym (add-zero (s .frames))) (sym (add-zero (s .blocks)));
-    }
+on-none s = same-counts (sym (add-zero (s .frames))) (sym (add-zero (s .blocks)))
 
--- one more
-plays-one : (file : List ℕ) (w next : Walker) (s t : ChunkCounts) (p : Position) (kind : Kind) (payload : List ℕ)
-    → readOf file w ≡ record { answer = packet (shownAt p kind payload); walker = next } → Plays file next (counted kind s) t → Plays file w s t
+on-more : (s : ChunkCounts) (p : Position) (kind : Kind) (payload : List ℕ) (ps : List Shown)
+    → onTop (counted kind s) ps ≡ onTop s (shownAt p kind payload ∷ ps)
 unfolding ofStream
-plays-one file w next s t p kind payload r later =
-    record {
-      packets = shownAt p kind payload ∷ later .packets;
-      left =
-          one-more (ap (λ (x : Reading). x .answer) r)
-          (subst (λ (x : Walker). PacketsLeft file x (later .packets)) (sym (ap (λ (x : Reading). x .walker) r)) (later .left));
-      counts-are = later .counts-are ∙ on kind;
-    }
-  where
-    on : (k : Kind) → onTop (counted k s) (later .packets) ≡ onTop s (shownAt p k payload ∷ later .packets)
-    on Frame = same-counts (omega arith) refl
-    on Sound = same-counts refl (omega arith)
+on-more s p Frame payload ps = same-counts (omega arith) refl
+on-more s p Sound payload ps = same-counts refl (omega arith)
 
--- a walker that has not ended, at a position of the walk
-record Stands (file : List ℕ) (w : Walker) : Type 0 where
-  going : w .end ≡ false
-  walked : Walked (w .position)
-  within : w .position .cursor ≤ fileLimit
-  known : tagsKnown (w .position .cursor) (walk file (w .position .cursor)) ≡ accepted tt
+-- the counts of a walk are those of the drain of its whole chunks
+abbrev Counts : List ℕ → Position → ChunkCounts → Type 0
+Counts file p s = countsFrom s (walk file (p .cursor)) ≡ onTop s (drainAt p (wholesOf (walk file (p .cursor))))
 
-module _ (file : List ℕ) (bytes : Bytes file) (fits : length file ≤ fileLimit) where
-  -- what is to be shown of a walker
-  abbrev Played : Walker → ChunkCounts → Type 0
-  Played w s = Plays file w s (countsFrom s (walk file (w .position .cursor)))
+counts-none : (file : List ℕ) (p : Position) (s : ChunkCounts) → countsFrom s (walk file (p .cursor)) ≡ s → wholesOf (walk file (p .cursor)) ≡ []
+    → Counts file p s
+unfolding drainFrom
+counts-none file p s e n = rw n (e ∙ on-none s)
 
-  module _ (w : Walker) (s : ChunkCounts) (h : Stands file w) where
-    abbrev p : Position
-    p = w .position
+module _ (file : List ℕ) (p : Position) (s : ChunkCounts) where
+  counts-more : (c : ChunkAt) → Goes file (p .cursor) c → c .missing ≡ 0 → Counts file (pastAt file p c) (counted (c .kind) s) → Counts file p s
+  counts-more c g m later =
+      let payload : List ℕ = payloadAt file (p .cursor) (c .size) in
+      let q : Position = pastAt file p c in
+      let next = past-cursor file p c in
+      let whole : length payload ≡ c .size = let n = g .size-is in omega arith in
+      let cs : List Chunk = wholesOf (walk file (q .cursor)) in
+      counts-whole file (p .cursor) c g s m
+      ∙ ap (λ (at : ℕ). countsFrom (counted (c .kind) s) (walk file at)) (sym next)
+      ∙ later
+      ∙ on-more s p (c .kind) payload (drainAt q cs)
+      ∙ ap (onTop s)
+      (ap (λ (r : Position). shownAt p (c .kind) payload ∷ drainAt r cs) (past-passed p (c .kind) payload whole)
+      ∙ sym (drain-cons p (c .kind) payload cs)
+      ∙ ap (drainAt p) (sym (wholes-past file (p .cursor) c g m ∙ ap (λ (at : ℕ). chunkOf (c .kind) payload ∷ wholesOf (walk file at)) (sym next))))
 
-    -- the read looks at what stands there
-    reads : {x : Head} → headAt file (p .cursor) ≡ x → readOf file w ≡ readHead file w x
-    reads e = looks file w fits (walked-range p (h .walked) (h .within)) (h .going) e
+  counts-on : ((c : ChunkAt) → Goes file (p .cursor) c → Counts file (pastAt file p c) (counted (c .kind) s)) → Counts file p s
+  unfolding countsFrom wholesOf
+  counts-on later = on (stepAt file (p .cursor)) refl
+    where
+      stops : (e : Stop) → walk file (p .cursor) ≡ stop e → Counts file p s
+      stops e w = counts-none file p s (ap (countsFrom s) w) (ap wholesOf w)
 
-    -- past a whole chunk the walker stands again
-    stands-on : (c : ChunkAt) → Goes file (p .cursor) c → c .missing ≡ 0 → Stands file (advanced w (pastAt file p c))
-    stands-on c g m =
-        let n = past-cursor file p c in
-        record {
-          going = h .going;
-          walked = walked-past file p c bytes fits g (h .walked);
-          within = let i = whole-inside file (p .cursor) c g m in omega arith;
-          known =
-              ap (λ (at : ℕ). tagsKnown at (walk file at)) n
-              ∙ sym (known-on file (p .cursor) c g (whole-recorded c m))
-              ∙ h .known;
-        }
+      on : (x : Step) → stepAt file (p .cursor) ≡ x → Counts file p s
+      on step.RanOut e = stops ranOut (step-means file (p .cursor) step.RanOut e)
+      on step.Trailer e = stops (trailer (length file - (p .cursor + 8))) (step-means file (p .cursor) step.Trailer e .is)
+      on step.UnknownTag e = stops unknownTag (step-means file (p .cursor) step.UnknownTag e)
+      on (step.Chunk c) e = by (c .missing) refl
+        where
+          g : Goes file (p .cursor) c
+          g = step-means file (p .cursor) (step.Chunk c) e
 
-    abbrev Later : Type 0
-    Later =
-        (c : ChunkAt) → Goes file (p .cursor) c → Stands file (advanced w (pastAt file p c))
-        → Played (advanced w (pastAt file p c)) (counted (c .kind) s)
+          by : (n : ℕ) → c .missing ≡ n → Counts file p s
+          by zero m = counts-more c g m (later c g)
+          by (suc n) m =
+              let cut : 0 < c .missing = omega arith in
+              counts-none file p s (counts-cut file (p .cursor) c g s cut) (wholes-cut file (p .cursor) c g cut)
 
-    -- a read that ends, where nothing is left to count
-    ends : countsFrom s (walk file (p .cursor)) ≡ s → readOf file w .answer ≡ End → Played w s
-    ends e r = rw e (plays-none file w s r)
-
-    -- a chunk, by how much of it is missing
-    on-chunk : Later → (kind : Kind) (size : ℕ) → headAt file (p .cursor) ≡ headOf kind size → Played w s
-    unfolding stepAt
-    on-chunk later kind size e = by (c .missing) refl
-      where
-        c : ChunkAt
-        c = chunkAt file (p .cursor) kind size
-
-        g : Goes file (p .cursor) c
-        g = step-means file (p .cursor) (step.Chunk c) (ap (onHead file (p .cursor)) e ∙ on-head file (p .cursor) kind size)
-
-        by : (n : ℕ) → c .missing ≡ n → Played w s
-        by zero m =
-            let r = reads e ∙ read-whole file w size kind (whole-inside file (p .cursor) c g m) in
-            let n = past-cursor file p c in
-            rw (counts-whole file (p .cursor) c g s m ∙ ap (λ (at : ℕ). countsFrom (counted kind s) (walk file at)) (sym n))
-            (plays-one file w (advanced w (pastAt file p c)) s _ p kind (payloadAt file (p .cursor) size) r (later c g (stands-on c g m)))
-        by (suc n) m =
-            let cut : 0 < c .missing = omega arith in
-            let r = reads e ∙ read-cut file w size kind (cut-outside file (p .cursor) c g cut) in
-            ends (counts-cut file (p .cursor) c g s cut) (ap (λ (x : Reading). x .answer) r)
-
-    -- by what stands there
-    by-head : Later → Played w s
-    unfolding stepAt countsFrom tagsKnown
-    by-head later = on (headAt file (p .cursor)) refl
-      where
-        on : (x : Head) → headAt file (p .cursor) ≡ x → Played w s
-        on head.Short e =
-            ends (ap (countsFrom s) (step-means file (p .cursor) step.RanOut (ap (onHead file (p .cursor)) e)))
-            (ap (λ (x : Reading). x .answer) (reads e))
-        on head.Trailer e =
-            ends (ap (countsFrom s) (step-means file (p .cursor) step.Trailer (ap (onHead file (p .cursor)) e) .is))
-            (ap (λ (x : Reading). x .answer) (reads e))
-        on head.Unknown e =
-            never (sym (h .known) ∙ ap (tagsKnown (p .cursor)) (step-means file (p .cursor) step.UnknownTag (ap (onHead file (p .cursor)) e)))
-        on (head.Video size) e = on-chunk later Frame size e
-        on (head.Audio size) e = on-chunk later Sound size e
-
-  played : (p : Position) (w : Walker) (s : ChunkCounts) → Stands file (advanced w p) → Played (advanced w p) s
-  played =
-      along file (λ p. (w : Walker) (s : ChunkCounts) → Stands file (advanced w p) → Played (advanced w p) s)
-      (λ p later w s h. by-head (advanced w p) s h (λ c g h′. later c g w (counted (c .kind) s) h′))
+-- from the prelude's end on
+pub walk-counts : (file : List ℕ) → countsFrom noneCounted (fileWalk file) ≡ packetCounts (drain (wholesOf (fileWalk file)))
+walk-counts file =
+    along file (λ p. (s : ChunkCounts) → Counts file p s) (λ p later s. counts-on file p s (λ c g. later c g (counted (c .kind) s))) start noneCounted
+    ∙ same-counts (zero-add (ofStream 0 _)) (zero-add (ofStream 1 _))
 
 plays : (file : List ℕ) → Bytes file → (s : ChunkCounts) → summaryOf file ≡ accepted s
-    → (ps : List Shown) × (PacketsLeft file fresh ps × (s ≡ record { frames = ofStream 0 ps; blocks = ofStream 1 ps }))
+    → (ps : List Shown) × (PacketsLeft file fresh ps × (s ≡ packetCounts ps))
 unfolding summaryOf
 plays file bytes s e =
     let a = ask-passed (withinLimit file) 10 0 _ e in
     let b = then-accepted (tagsKnown preludeLen (fileWalk file)) (λ _. accepted (countsFrom noneCounted (fileWalk file))) (a .1) in
     let fits = leb-true (length file) fileLimit (a .0) in
-    let r =
-    played file bytes fits start fresh noneCounted
-    (record { going = refl; walked = walked-start; within = omega arith; known = b .1 }) in
-    let top = same-counts (zero-add (ofStream 0 (r .packets))) (zero-add (ofStream 1 (r .packets))) in
-    (r .packets, (r .left, sym (accepted-same (b .2)) ∙ r .counts-are ∙ top))
+    (_, (packets-left (reads-drain file bytes fits (b .1)), sym (accepted-same (b .2)) ∙ walk-counts file))
 
 -- ---- a finished recording
 

@@ -22,11 +22,9 @@ use Rattle.duration.proofs.RunLengths.{run-small}
 use Rattle.prelude.specs.Built.{preludeBytes}
 use Rattle.prelude.specs.Prelude.{strictOf}
 use Rattle.prelude.proofs.BuiltLaws.{length-prelude, patched, strict-built}
-use Rattle.walk.specs.Walk.{Walk}
-use Rattle.walk.specs.Walk as walks
 use Rattle.walk.specs.declared.Kind.{Kind}
 use Rattle.walk.specs.declared.Kind.the-variants.{Frame, Sound}
-use Rattle.walk.specs.Chunks.{Chunk, chunkOf, chunkBytes, chunksBytes, Lengths, walkOf}
+use Rattle.walk.specs.Chunks.{Chunk, chunkOf, chunkBytes, chunksBytes, Lengths}
 use Rattle.muxer.specs.Writer.{fresh, WriteOutcome, packetBytes, patchRunLength, headerQuestions, headerCall, packetCall, trailerCall}
 use Rattle.muxer.specs.declared.Settings.{Settings}
 use Rattle.muxer.specs.declared.Writer.{Writer}
@@ -38,6 +36,7 @@ use Rattle.recording.specs.Grammar.{Passes, Finished}
 use Rattle.recording.specs.WriteLists.{WriteCall, header, packet, trailer, writeStep, kept, acceptedCalls, writerAfter, bufferAfter, writtenFile}
 use Rattle.recording.specs.WriteLists.{Sent, sentBy, sentIn, Held, Completed, Drains, WritesDrain}
 use Rattle.recording.proofs.Tables.{finished-walk}
+use Rattle.recording.proofs.Drains.{wholesOf, all-whole}
 
 -- ---- chunks, one more
 
@@ -384,20 +383,10 @@ written s buf calls c =
       drains = sent-drained 0 0 (l .chunks) ∙ l .sends;
     }
 
--- the chunks of a walk
-abbrev chunksIn : Walk → List Chunk
-chunksIn (walks.stop r) = []
-chunksIn (walks.chunk kind payload missing rest) = chunkOf kind payload ∷ chunksIn rest
-
-chunks-walked : (cs : List Chunk) (n : ℕ) → chunksIn (walkOf cs n) ≡ cs
-unfolding walkOf
-chunks-walked [] n = refl
-chunks-walked (chunkOf kind payload ∷ cs) n = ap (λ (l : List Chunk). chunkOf kind payload ∷ l) (chunks-walked cs n)
-
 -- a finished file is that of one list of chunks
 pub one-list : (file : List ℕ) (cs ds : List Chunk) → Finished file cs → Finished file ds → cs ≡ ds
 one-list file cs ds f g =
-    sym (chunks-walked cs 0) ∙ ap chunksIn (sym (finished-walk file cs f) ∙ finished-walk file ds g) ∙ chunks-walked ds 0
+    sym (all-whole cs 0) ∙ ap wholesOf (sym (finished-walk file cs f) ∙ finished-walk file ds g) ∙ all-whole ds 0
 
 pub writes : WritesDrain
 writes s buf calls held =

@@ -5,6 +5,7 @@ pub mod Machine
 pub mod Check
 pub mod Summary
 pub mod WriteLists
+pub mod Cut
 pub mod Lists
 pub mod ByValue
 pub mod Together
