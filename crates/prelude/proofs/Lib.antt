@@ -3,6 +3,7 @@ pub mod Zeros
 pub mod Bodies
 pub mod Stored
 pub mod Local
+pub mod Cut
 pub mod BuiltLaws
 pub mod Tags
 pub mod Sentences

@@ -82,3 +82,8 @@ askItem file (Body place width) = askBody file place width
 unfoldable pub askItems : List ℕ → List LayoutItem → Answer Unit
 askItems file [] = accepted tt
 askItems file (item ∷ items) = andThen (askItem file item) (λ _. askItems file items)
+
+-- 02, M-107: of a file that is cut to n bytes, the start of the first item that does not end within them
+unfoldable pub firstCut : ℕ → List LayoutItem → ℕ
+firstCut n [] = n
+firstCut n (item ∷ items) = cond (leb (endOf item) n) (firstCut n items) (startOf item)

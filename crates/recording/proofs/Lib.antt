@@ -8,6 +8,8 @@ pub mod Drains
 pub mod Summaries
 pub mod Writes
 pub mod Numbers
+pub mod Within
+pub mod Cuts
 pub mod Runs
 pub mod ByValue
 pub mod Together

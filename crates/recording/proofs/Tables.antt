@@ -42,7 +42,7 @@ pub recorded-whole : (kind : Kind) (payload : List ℕ) → recorded kind payloa
 recorded-whole Frame payload = refl
 recorded-whole Sound payload = le-leb (min 8 (length payload + 0)) (length payload) (omega arith)
 
-past-whole : (p : Position) (kind : Kind) (payload : List ℕ) → past p kind payload 0 ≡ passed p kind payload
+pub past-whole : (p : Position) (kind : Kind) (payload : List ℕ) → past p kind payload 0 ≡ passed p kind payload
 past-whole p Frame payload = rw add-zero
 past-whole p Sound payload = rw add-zero
 

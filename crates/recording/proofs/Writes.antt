@@ -7,7 +7,7 @@ use Prim.Native.Nat.{ℕ, zero, suc, _+_, _^_, _≤_, _<_}
 use native.Mathlib.Omega.{arith}
 use borrow.Author.Tests.{ne-eqb}
 use lib.Dec.{ltb}
-use lib.ListN.{length, length-take}
+use lib.ListN.{length, length-append, length-take}
 use lib.Seq.{take-append-le, drop-append-le}
 use Rattle.fields.proofs.Impossible.{impossible}
 use Rattle.prelude.specs.Layout.{preludeLen}
@@ -35,6 +35,7 @@ use Rattle.recording.specs.Drain.{drain, drainFrom}
 use Rattle.recording.specs.Grammar.{Passes, Finished}
 use Rattle.recording.specs.WriteLists.{WriteCall, header, packet, trailer, writeStep, kept, acceptedCalls, writerAfter, bufferAfter, writtenFile}
 use Rattle.recording.specs.WriteLists.{Sent, sentBy, sentIn, Held, Completed, Drains, WritesDrain}
+use Rattle.recording.specs.Cut.{UnderWay}
 use Rattle.recording.proofs.Tables.{finished-walk}
 use Rattle.recording.proofs.Drains.{wholesOf, all-whole}
 
@@ -382,6 +383,39 @@ written s buf calls c =
       finished = is-over s (c .held) (k .fps-positive) (k .one-channel) _ _ _ (l .state) over;
       drains = sent-drained 0 0 (l .chunks) ∙ l .sends;
     }
+
+-- ---- a recording under way
+
+-- with a trailer behind it
+module _ (s : Settings) (buf : List ℕ) (calls : List WriteCall) (u : UnderWay s buf calls) where
+  not-idle : (cs : List Chunk) → State s (u .held) (u .fps-positive) (u .one-channel) (writerAfter (fresh s) buf calls) (bufferAfter (fresh s) buf calls) cs
+      → writerAfter (fresh s) buf calls .begun ≡ true
+      → Going s (u .held) (u .fps-positive) (u .one-channel) (writerAfter (fresh s) buf calls) (bufferAfter (fresh s) buf calls) cs
+  not-idle cs (idle i) e = false-true e (i .begun)
+  not-idle cs (under-way i) e = i
+  not-idle cs (over i) e = false-true (i .ended) (u .going)
+
+  pub unfinished : Drains (writtenFile (fresh s) buf calls ++ trailerBytes) (acceptedCalls (fresh s) buf calls)
+  unfinished =
+      let l = from-fresh s (u .held) (u .fps-positive) (u .one-channel) buf calls in
+      let g = not-idle (l .chunks) (l .state) (l .begins (inl (u .begun))) in
+      let file : List ℕ = writtenFile (fresh s) buf calls in
+      let prelude : List ℕ = preludeBytes (s .width) (s .height) (s .fps) 0 (s .rate) (s .channels) in
+      let n = length-append file trailerBytes in
+      let m = length-take (writerAfter (fresh s) buf calls .written) (bufferAfter (fresh s) buf calls) in
+      record {
+        chunks = l .chunks;
+        finished =
+            record {
+              prelude = prelude;
+              passes = passes-with s (u .held) (u .fps-positive) (u .one-channel) 0 (omega arith);
+              whole = length-prelude (s .width) (s .height) (s .fps) 0 (s .rate) (s .channels);
+              is = ap (λ (xs : List ℕ). xs ++ trailerBytes) (g .file) ∙ append-assoc prelude (chunksBytes (l .chunks)) trailerBytes;
+              fits = let r = u .room in omega arith;
+              lengths = g .lengths;
+            };
+        drains = sent-drained 0 0 (l .chunks) ∙ l .sends;
+      }
 
 -- a finished file is that of one list of chunks
 pub one-list : (file : List ℕ) (cs ds : List Chunk) → Finished file cs → Finished file ds → cs ≡ ds

@@ -1,4 +1,4 @@
--- The finished recording, and the three claims about whole lists of calls: docs/FORMAT.md, sections 8 and 11.
+-- The finished recording, the three claims about whole lists of calls, and which packets survive a cut: docs/FORMAT.md, sections 8 and 11.
 pub mod Grammar
 pub mod Drain
 pub mod Machine
