@@ -1,6 +1,6 @@
 -- The methods are 01's calls by their contracts: a reader stands for its walker as long as it holds the file, and a writer for its state.
 -- Assumes nothing.
-use mathlib.Core.Path.{_≡_, refl, ap}
+use mathlib.Core.Path.{_≡_, refl, ap, subst}
 use Prim.Native.Nat.{ℕ}
 use mathlib.Core.List.{List}
 use denote.Ref.{RefT, now}
@@ -36,6 +36,11 @@ through-methods =
           every-list .reads-and-seeks (Stands file) (DemuxerStep table) (now file) cs all fin table own (calling file table) _
           calls said last (refl, refl) ran in
           rw (a .1 .0 .1) (a .1 .1);
+      cut = λ whole cs all fin n short file is table said last ran.
+          let a =
+          every-list .cut (Stands file) (DemuxerStep table) whole cs all fin n short table
+          (subst (λ (l : List ℕ). Calling (Stands file) (DemuxerStep table) l table) is (calling file table)) _ (refl, refl) said last ran in
+          (a .0, a .1 .1);
       writing = λ s held m new buf calls said last ran.
           let a = every-list .writes _ MuxerStep writing s held _ calls said last new ran in
           rw (a .1 .0) (a .1 .1);

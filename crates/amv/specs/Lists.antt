@@ -1,9 +1,9 @@
 -- Lists of the methods of the reader and of the writer, and demand 3 of what they return and leave. Assumes nothing.
 use mathlib.Core.Path.{_≡_}
-use Prim.Native.Nat.{ℕ}
+use Prim.Native.Nat.{ℕ, _<_}
 use mathlib.Core.List.{List}
 use lib.IntN.{ℤ}
-use lib.ListN.{take}
+use lib.ListN.{length, take}
 use denote.Ref.{RefT, now}
 use Rattle.error.specs.Answer.{Answer}
 use Rattle.error.specs.Refusal.{said}
@@ -11,6 +11,7 @@ use Rattle.error.specs.declared.AmvResult.{AmvResult}
 use Rattle.fields.specs.Le.{Bytes}
 use Rattle.demuxer.specs.Read.{saidNext}
 use Rattle.demuxer.specs.declared.walker.NextPacket.{NextPacket}
+use Rattle.demuxer.specs.declared.walker.Walker.{Walker}
 use Rattle.seek.specs.Seek.{saidSeek}
 use Rattle.seek.specs.declared.SeekResult.{SeekResult}
 use Rattle.muxer.specs.Writer.{fresh}
@@ -19,7 +20,7 @@ use Rattle.walk.specs.Chunks.{Chunk}
 use Rattle.recording.specs.Grammar.{Finished}
 use Rattle.recording.specs.Machine.{Call, read, seek, CallAnswer, readAnswer, seekAnswer, Agreed, OwnIndex}
 use Rattle.recording.specs.WriteLists.{WriteCall, writeStep, Held, WritesAgreed}
-use Rattle.recording.specs.Lists.{CallsRan, Lent, acceptedBy}
+use Rattle.recording.specs.Lists.{CallsRan, DrainsCut, Lent, acceptedBy}
 use Rattle.amv.specs.Reader.{opened, ReadsNext, Seeks}
 use Rattle.amv.specs.Writer.{MuxerWrites}
 use Rattle.amv.specs.declared.reader.AmvDemuxer.{AmvDemuxer}
@@ -43,6 +44,10 @@ pub record ThroughMethods : Type 0 where
       → (table : List ℕ) → OwnIndex (now file) table
       → (calls : List Call) (said : List CallAnswer) (last : AmvDemuxer) → CallsRan (DemuxerStep table) (opened file) calls said last
       → Agreed (now file) cs calls (last .walker) said
+  -- of a reader that was opened on the first n bytes of a finished recording, fewer than it has (02, M-107)
+  pub cut : (whole : List ℕ) (cs : List Chunk) → Bytes whole → Finished whole cs → (n : ℕ) → n < length whole
+      → (file : RefT (List ℕ)) → now file ≡ take n whole → (table : List ℕ)
+      → DrainsCut (λ (last : AmvDemuxer) (w : Walker). last .walker ≡ w) (DemuxerStep table) (opened file) cs n
   pub writing : (s : Settings) → Held s → (m : AmvMuxer) → m .writer ≡ fresh s
       → (buf : List ℕ) (calls : List WriteCall) (said : List (Answer Unit)) (last : Lent AmvMuxer)
       → CallsRan MuxerStep (record { state = m; buffer = buf }) calls said last

@@ -324,6 +324,11 @@ through-words =
           every-list .reads-and-seeks Stands (WalkerStep file table) file cs all fin table own (calling file table) _ calls said last
           (refl, refl) ran in
           (a .0, (spells last (a .0) (a .1 .0), a .1 .1));
+      cut = λ file cs all fin n short table said last ran.
+          let a =
+          every-list .cut Stands (WalkerStep (take n file) table) file cs all fin n short table (calling (take n file) table) _ (refl, refl) said last
+          ran in
+          (a .0, spells last _ (a .1));
       register-steps = λ file cs all fin table own blocks said last ran.
           let a =
           every-step (List ℕ) Stands (RegisterStep file table) file cs all fin table own (stepping file table) _ blocks said last

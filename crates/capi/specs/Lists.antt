@@ -1,13 +1,13 @@
 -- Lists of calls through words, each of which gets the words that the last one left, and demand 3 of what they return and write.
 -- Assumes nothing.
 use mathlib.Core.Path.{_≡_}
-use Prim.Native.Nat.{ℕ}
+use Prim.Native.Nat.{ℕ, _<_}
 use mathlib.Core.Bool.{cond}
 use mathlib.Core.List.{List, [], _∷_}
 use mathlib.Core.Option.{Option}
 use lib.Dec.{eqb}
 use lib.IntN.{ℤ}
-use lib.ListN.{take}
+use lib.ListN.{length, take}
 use Rattle.error.specs.Answer.{Answer, accepted, numbered, ask}
 use Rattle.fields.specs.Le.{Bytes}
 use Rattle.demuxer.specs.Packet.{Shown, packetDuration, shownOf}
@@ -25,7 +25,7 @@ use Rattle.recording.specs.Grammar.{Finished}
 use Rattle.recording.specs.Machine.{Call, read, seek, CallAnswer, readAnswer, Agreed, OwnIndex}
 use Rattle.recording.specs.Machine as machine
 use Rattle.recording.specs.WriteLists.{WriteCall, writeStep, WritesAgreed}
-use Rattle.recording.specs.Lists.{CallsRan, Lent, acceptedBy}
+use Rattle.recording.specs.Lists.{CallsRan, DrainsCut, Lent, acceptedBy}
 use Rattle.registers.specs.Lists.{StepAnswer, StepsAgreed}
 use Rattle.words.specs.State.{word, walkerOf, walkerWords, writerWords}
 use Rattle.capi.specs.Calls.{WalkerCall, nextAnswer, nextWalker, seekAnswer, seekWalker, StepCall, WriterCall}
@@ -91,6 +91,9 @@ pub record ThroughWords : Type 0 where
       → (calls : List Call) (said : List CallAnswer) (last : List ℕ)
       → CallsRan (WalkerStep file table) (walkerWords demuxer.fresh) calls said last
       → (w : Walker) × ((walkerOf last ≡ accepted w) × Agreed file cs calls w said)
+  -- of reads of its first n bytes, fewer than it has (02, M-107)
+  pub cut : (file : List ℕ) (cs : List Chunk) → Bytes file → Finished file cs → (n : ℕ) → n < length file → (table : List ℕ)
+      → DrainsCut (λ (last : List ℕ) (w : Walker). walkerOf last ≡ accepted w) (WalkerStep (take n file) table) (walkerWords demuxer.fresh) cs n
   -- and of every list of steps, with any block at each of them
   pub register-steps : (file : List ℕ) (cs : List Chunk) → Bytes file → Finished file cs → (table : List ℕ) → OwnIndex file table
       → (blocks : List (List ℕ)) (said : List StepAnswer) (last : List ℕ)

@@ -2,6 +2,7 @@
 use mathlib.Core.Path.{_≡_, refl, ap}
 use mathlib.Core.List.{List}
 use Prim.Native.Nat.{ℕ}
+use lib.ListN.{take}
 use Rattle.demuxer.specs.declared.walker.Walker.{Walker}
 use Rattle.muxer.specs.declared.Writer.{Writer}
 use Rattle.recording.specs.Machine.{readAnswer, seekAnswer, call}
@@ -23,6 +24,7 @@ by-value =
       reads-and-seeks = λ file cs all fin table own calls said last ran.
           let a = every-list .reads-and-seeks _ _ file cs all fin table own (calling file table) _ calls said last refl ran in
           rw (a .1 .0) (a .1 .1);
+      cut = λ file cs all fin n short table. every-list .cut _ _ file cs all fin n short table (calling (take n file) table) _ refl;
       writes = λ s held buf calls said last ran.
           let a = every-list .writes _ _ writing s held _ calls said last refl ran in
           rw (a .1 .0) (a .1 .1);

@@ -1,15 +1,20 @@
 -- A list of calls over any state answers and leaves what 01's list of calls does, by one step after the other, so 01's claims hold of it.
 -- Assumes nothing.
-use mathlib.Core.Path.{_≡_, refl}
+use mathlib.Core.Path.{_≡_, refl, ap, _∙_, subst}
 use mathlib.Core.List.{List, [], _∷_}
 use Prim.Native.Nat.{ℕ}
+use lib.ListN.{take}
 use Rattle.error.specs.Answer.{Answer}
+use Rattle.demuxer.specs.Packet.{Shown}
+use Rattle.demuxer.specs.Read.{Reading, packet}
 use Rattle.demuxer.specs.declared.walker.Walker.{Walker}
 use Rattle.muxer.specs.declared.Writer.{Writer}
-use Rattle.recording.specs.Machine.{Call, CallAnswer, call, answers, after}
+use Rattle.recording.specs.Machine.{Call, CallAnswer, readAnswer, call, answers, after}
+use Rattle.recording.specs.Cut.{ReadsUntilEnd, ends, gives}
 use Rattle.recording.specs.WriteLists.{WriteCall, writeStep, kept, acceptedCalls, writerAfter, bufferAfter}
-use Rattle.recording.specs.Lists.{CallsRan, no-call, one-more, Calling, Lent, Writing, acceptedBy, EveryList}
+use Rattle.recording.specs.Lists.{CallsRan, no-call, one-more, Calling, readsFor, readsSay, Lent, Writing, acceptedBy, EveryList}
 use Rattle.recording.proofs.Lists.{reads-and-seeks}
+use Rattle.recording.proofs.Cuts.{cut-recordings}
 use Rattle.recording.proofs.Writes.{writes}
 
 module _ {S : Type 0} (Stands : S → Walker → Type 0) (Step : S → Call → CallAnswer → S → Type 0) (file table : List ℕ)
@@ -22,6 +27,18 @@ module _ {S : Type 0} (Stands : S → Walker → Type 0) (Step : S → Call → 
       let t = calling _ _ _ _ w i step in
       let r = follows (call file table w c .walker) (t .1) rest in
       ((λ j. t .0 j ∷ r .0 j), r .1)
+
+-- reads alone until End
+until-end : {file : List ℕ} (table : List ℕ) {w last : Walker} {ps : List Shown} → ReadsUntilEnd file w ps last
+    → (answers file table w (readsFor ps) ≡ readsSay ps) × (after file table w (readsFor ps) ≡ last)
+unfolding answers after call readsFor readsSay
+until-end table (ends r) = (ap (λ (x : Reading). readAnswer (x .answer) ∷ []) r, ap (λ (x : Reading). x .walker) r)
+until-end {file} table (gives {p = p} {ps = ps} r rest) =
+    let later = until-end table rest in (
+      ap (λ (x : Reading). readAnswer (x .answer) ∷ answers file table (x .walker) (readsFor ps)) r
+          ∙ ap (λ (said : List CallAnswer). readAnswer (packet p) ∷ said) (later .0),
+      ap (λ (x : Reading). after file table (x .walker) (readsFor ps)) r ∙ later .1,
+    )
 
 module _ {S : Type 0} (Stands : S → Writer → Type 0) (Step : Lent S → WriteCall → Answer Unit → Lent S → Type 0)
     (writing : Writing Stands Step) where
@@ -50,6 +67,10 @@ every-list =
       reads-and-seeks = λ Stands Step file cs all fin table own calling s calls said last i ran.
           let f = follows Stands Step file table calling _ i ran in
           (_, (f .1, rw (f .0) (reads-and-seeks file cs all fin table own calls)));
+      cut = λ Stands Step file cs all fin n short table calling s i said last ran.
+          let f = follows Stands Step (take n file) table calling _ i ran in
+          let u = until-end table (cut-recordings .survives file cs all fin n short .drained) in
+          (f .0 ∙ u .0, subst (Stands last) (u .1) (f .1));
       writes = λ Stands Step writing settings held s calls said last i ran.
           let f = writes-follow Stands Step writing _ i ran in
           (_, (f .1 .0, rw (f .0, f .1 .1) (writes settings (s .buffer) calls held)));

@@ -1,9 +1,9 @@
 -- Lists of the calls that get a state by value and return the next one, by what their functions' contracts say. Assumes nothing.
 use mathlib.Core.Path.{_≡_}
-use Prim.Native.Nat.{ℕ}
+use Prim.Native.Nat.{ℕ, _<_}
 use mathlib.Core.List.{List}
 use lib.IntN.{ℤ}
-use lib.ListN.{take}
+use lib.ListN.{length, take}
 use Rattle.error.specs.Answer.{Answer}
 use Rattle.error.specs.Refusal.{said}
 use Rattle.fields.specs.Le.{Bytes}
@@ -22,7 +22,7 @@ use Rattle.walk.specs.Chunks.{Chunk}
 use Rattle.recording.specs.Grammar.{Finished}
 use Rattle.recording.specs.Machine.{Call, read, seek, CallAnswer, readAnswer, seekAnswer, Agreed, OwnIndex}
 use Rattle.recording.specs.WriteLists.{WriteCall, writeStep, Held, WritesAgreed}
-use Rattle.recording.specs.Lists.{CallsRan, Lent, acceptedBy}
+use Rattle.recording.specs.Lists.{CallsRan, DrainsCut, Lent, acceptedBy}
 
 -- `next_packet` and `seek_to_via_index`
 pub data WalkerStep (file table : List ℕ) : Walker → Call → CallAnswer → Walker → Type 0 where
@@ -36,11 +36,13 @@ pub data WriterStep : Lent Writer → WriteCall → Answer Unit → Lent Writer 
   writes : {s : Lent Writer} {c : WriteCall} (r : Wrote) (after : List ℕ) → MeetsOutcome (writeStep (s .state) (s .buffer) c) r after
       → WriterStep s c (said (r .result)) (record { state = r .writer; buffer = after })
 
--- Demand 3 of these calls, from fresh states
+-- Demand 3 of these calls, from fresh states, and 02's M-107 of reads
 pub record ByValue : Type 0 where
   pub reads-and-seeks : (file : List ℕ) (cs : List Chunk) → Bytes file → Finished file cs → (table : List ℕ) → OwnIndex file table
       → (calls : List Call) (said : List CallAnswer) (last : Walker) → CallsRan (WalkerStep file table) demuxer.fresh calls said last
       → Agreed file cs calls last said
+  pub cut : (file : List ℕ) (cs : List Chunk) → Bytes file → Finished file cs → (n : ℕ) → n < length file → (table : List ℕ)
+      → DrainsCut (λ (last w : Walker). last ≡ w) (WalkerStep (take n file) table) demuxer.fresh cs n
   pub writes : (s : Settings) → Held s → (buf : List ℕ) (calls : List WriteCall) (said : List (Answer Unit)) (last : Lent Writer)
       → CallsRan WriterStep (record { state = muxer.fresh s; buffer = buf }) calls said last
       → WritesAgreed s (take (last .state .written) (last .buffer)) (acceptedBy calls said)

@@ -1,19 +1,24 @@
--- Lists of calls over any state that stands for 01's, and the claims about them: demand 3 as the callers of functions that keep their
--- state in words or behind a reference have it. Assumes nothing.
+-- Lists of calls over any state that stands for 01's, and the claims about them: demand 3, and 02's M-107, as the callers of functions that keep
+-- their state in words or behind a reference have it. Assumes nothing.
 use mathlib.Core.Path.{_≡_}
-use Prim.Native.Nat.{ℕ}
+use Prim.Native.Nat.{ℕ, _<_}
+use mathlib.Core.Bool.{true}
 use mathlib.Core.List.{List, [], _∷_}
-use lib.ListN.{take}
+use lib.ListN.{length, take}
 use Rattle.error.specs.Answer.{Answer}
 use Rattle.fields.specs.Le.{Bytes}
+use Rattle.demuxer.specs.Packet.{Shown}
+use Rattle.demuxer.specs.Read.{packet, End}
 use Rattle.demuxer.specs.Read as demuxer
+use Rattle.demuxer.specs.declared.walker.Trailer.the-variants.{NotMet}
 use Rattle.demuxer.specs.declared.walker.Walker.{Walker}
 use Rattle.muxer.specs.Writer as muxer
 use Rattle.muxer.specs.declared.Settings.{Settings}
 use Rattle.muxer.specs.declared.Writer.{Writer}
 use Rattle.walk.specs.Chunks.{Chunk}
 use Rattle.recording.specs.Grammar.{Finished}
-use Rattle.recording.specs.Machine.{Call, CallAnswer, call, Agreed, OwnIndex}
+use Rattle.recording.specs.Machine.{Call, read, CallAnswer, readAnswer, call, Agreed, OwnIndex}
+use Rattle.recording.specs.Cut.{survivors, endedAt}
 use Rattle.recording.specs.WriteLists.{WriteCall, writeStep, kept, Held, WritesAgreed}
 
 -- "each call gets the walker that the last one returned": calls, what each answered, and the state that the last one left; a step says
@@ -47,6 +52,21 @@ acceptedBy [] said = []
 acceptedBy (c ∷ calls) [] = []
 acceptedBy (c ∷ calls) (answer ∷ said) = kept answer c (acceptedBy calls said)
 
+-- a read for each packet and one more, and what they answer where they give these packets and End
+unfoldable pub readsFor : List Shown → List Call
+readsFor [] = read ∷ []
+readsFor (p ∷ ps) = read ∷ readsFor ps
+
+unfoldable pub readsSay : List Shown → List CallAnswer
+readsSay [] = readAnswer End ∷ []
+readsSay (p ∷ ps) = readAnswer (packet p) ∷ readsSay ps
+
+-- 02, M-107, of a step's reads from a state on: they give the packets that survive a cut to n bytes, then End, and leave a state that is as said
+abbrev pub DrainsCut : {S : Type 0} → (S → Walker → Type 0) → (S → Call → CallAnswer → S → Type 0) → S → List Chunk → ℕ → Type 0
+DrainsCut {S} Is Step first cs n =
+    (said : List CallAnswer) (last : S) → CallsRan Step first (readsFor (survivors n cs)) said last
+    → (said ≡ readsSay (survivors n cs)) × Is last (endedAt cs (length (survivors n cs)) true NotMet)
+
 -- Demand 3 over any state, of what the calls answered and left
 pub record EveryList : Type 1 where
   pub reads-and-seeks : {S : Type 0} (Stands : S → Walker → Type 0) (Step : S → Call → CallAnswer → S → Type 0)
@@ -54,6 +74,9 @@ pub record EveryList : Type 1 where
       → Calling Stands Step file table
       → (s : S) (calls : List Call) (said : List CallAnswer) (last : S) → Stands s demuxer.fresh → CallsRan Step s calls said last
       → (w : Walker) × (Stands last w × Agreed file cs calls w said)
+  pub cut : {S : Type 0} (Stands : S → Walker → Type 0) (Step : S → Call → CallAnswer → S → Type 0)
+      → (file : List ℕ) (cs : List Chunk) → Bytes file → Finished file cs → (n : ℕ) → n < length file → (table : List ℕ)
+      → Calling Stands Step (take n file) table → (s : S) → Stands s demuxer.fresh → DrainsCut Stands Step s cs n
   pub writes : {S : Type 0} (Stands : S → Writer → Type 0) (Step : Lent S → WriteCall → Answer Unit → Lent S → Type 0) → Writing Stands Step
       → (settings : Settings) → Held settings
       → (s : Lent S) (calls : List WriteCall) (said : List (Answer Unit)) (last : Lent S) → Stands (s .state) (muxer.fresh settings)
