@@ -7,3 +7,4 @@ pub mod Pages
 pub mod Sounds
 pub mod Words
 pub mod Registers
+pub mod Cut

@@ -9,3 +9,4 @@ pub mod Pages
 pub mod Sounds
 pub mod Words
 pub mod Registers
+pub mod Cut
