@@ -12,13 +12,22 @@ pub const EXAMPLE_SETTINGS: Settings = Settings {
     channels: 1,
 };
 
-/// 01's small file E.
-pub fn example() -> Vec<u8> {
+/// A finished recording with E's settings and these chunks, each a tag and a payload.
+pub fn recording(chunks: &[(u32, &[u8])]) -> Vec<u8> {
     let mut file = plain::build_prelude_bytes(EXAMPLE_SETTINGS, 0).to_vec();
-    push_chunk(&mut file, VIDEO, &[0xff, 0xd8, 0xd9]);
-    push_chunk(&mut file, AUDIO, &[0, 0, 0, 0, 2, 0, 0, 0, 0x11, 0x22]);
+    for (tag, payload) in chunks {
+        push_chunk(&mut file, *tag, payload);
+    }
     file.extend(TRAILER);
     file
+}
+
+/// 01's small file E.
+pub fn example() -> Vec<u8> {
+    recording(&[
+        (VIDEO, &[0xff, 0xd8, 0xd9]),
+        (AUDIO, &[0, 0, 0, 0, 2, 0, 0, 0, 0x11, 0x22]),
+    ])
 }
 
 /// Files with chunks of telling lengths, each to be cut everywhere.
@@ -33,12 +42,8 @@ pub fn shapes() -> Vec<Vec<u8>> {
         &[(AUDIO, 16), (VIDEO, 2)],
     ];
     let shape = |chunks: &[(u32, usize)]| {
-        let mut file = plain::build_prelude_bytes(EXAMPLE_SETTINGS, 0).to_vec();
-        for (tag, length) in chunks {
-            push_chunk(&mut file, *tag, &vec![5; *length]);
-        }
-        file.extend(TRAILER);
-        file
+        let chunk = |(tag, length): &(u32, usize)| (*tag, &[5; 16][..*length]);
+        recording(&chunks.iter().map(chunk).collect::<Vec<_>>())
     };
     let mut files = vec![example()];
     files.extend(lengths.map(shape));

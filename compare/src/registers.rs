@@ -3,7 +3,7 @@
 //! the comparison.
 
 use plain::words::{WalkerWords, walker_words};
-use plain::{AUDIO, COUNT_LIMIT, PRELUDE, Packet, RECORD, REGISTERS, TRAILER, VIDEO, Walker};
+use plain::{AUDIO, COUNT_LIMIT, PRELUDE, Packet, RECORD, REGISTERS, VIDEO, Walker};
 
 use crate::calls::{self, Guarded};
 use crate::files;
@@ -282,16 +282,15 @@ fn written_out(tally: &mut Tally) {
 
 /// A recording in which no two chunks of a stream have equal stamps, but for the last two blocks.
 fn recording() -> Vec<u8> {
-    let mut file = plain::build_prelude_bytes(files::EXAMPLE_SETTINGS, 0).to_vec();
-    files::push_chunk(&mut file, VIDEO, &[0xff, 0xd8, 0xd9]);
-    files::push_chunk(&mut file, AUDIO, &[0, 0, 0, 0, 2, 0, 0, 0, 0x11]);
-    files::push_chunk(&mut file, VIDEO, &[]);
-    files::push_chunk(&mut file, AUDIO, &[0, 0, 0, 0, 0x2c, 1, 0, 0]);
-    files::push_chunk(&mut file, AUDIO, &[1, 2, 3]);
-    files::push_chunk(&mut file, AUDIO, &[0, 0, 0, 0, 5, 0, 0, 0]);
-    files::push_chunk(&mut file, VIDEO, &[1]);
-    file.extend(TRAILER);
-    file
+    files::recording(&[
+        (VIDEO, &[0xff, 0xd8, 0xd9]),
+        (AUDIO, &[0, 0, 0, 0, 2, 0, 0, 0, 0x11]),
+        (VIDEO, &[]),
+        (AUDIO, &[0, 0, 0, 0, 0x2c, 1, 0, 0]),
+        (AUDIO, &[1, 2, 3]),
+        (AUDIO, &[0, 0, 0, 0, 5, 0, 0, 0]),
+        (VIDEO, &[1]),
+    ])
 }
 
 /// A block of arbitrary bytes, but for command and request.
