@@ -16,7 +16,7 @@ use crate::tally::{Tally, hex};
 
 /// Whether the original agrees with what is expected of it. The rule that was needed is entered. Where the original cannot be
 /// asked there is no answer on either side.
-fn original_agrees<T: PartialEq>(
+pub fn original_agrees<T: PartialEq>(
     tally: &mut Tally,
     expected: &Expected<T>,
     told: &Option<T>,
@@ -453,7 +453,8 @@ pub fn check(tally: &mut Tally, file: &[u8]) -> bool {
     finished.is_some()
 }
 
-fn drain_totals(file: &[u8], chunks: &[grammar::Chunk]) -> Said<6> {
+/// What the check answers of a finished recording with these chunks.
+pub fn drain_totals(file: &[u8], chunks: &[grammar::Chunk]) -> Said<6> {
     let tags: Vec<u32> = chunks.iter().map(|chunk| chunk.tag).collect();
     let packets = grammar::drain(file, chunks);
     let of = |stream| packets.iter().filter(move |(p, _)| p.stream == stream);

@@ -57,7 +57,7 @@ fn judge<T: PartialEq + std::fmt::Debug>(
     });
 }
 
-/// A file at the limit is read like any other.
+/// A file at the limit is read like any other, and so is one that is cut a little below.
 fn within(tally: &mut Tally, file: &[u8]) {
     let trailer = (LIMIT - 8) as u64;
     let totals = accepted(&[1, 0, 0, trailer, 0]);
@@ -81,6 +81,18 @@ fn within(tally: &mut Tally, file: &[u8]) {
     read(tally, file, (packet, left));
     let block = [0, 1, 0xff, 1, 0, 0, 6, 7, 0, 0, 0, 0, 0, 0, 0, 0];
     step(tally, file, &[], 1, (packet, left, block));
+    // Cut where its frame ends it gives the frame, and a byte before it does not.
+    let lost = (accepted(&[]), [316, 0, 0, 0, 1, 1, u64::MAX]);
+    for (length, first, frames, place) in [
+        (LIMIT - 8, (packet, left), 1, trailer),
+        (LIMIT - 9, lost, 0, 316),
+    ] {
+        let cut = &file[..length];
+        read(tally, cut, first);
+        let [plain, library] = [PLAIN, LIBRARY].map(|side| (side.check(cut), side.summary(cut)));
+        let expected = (refused(60, place), accepted(&[frames, 0]));
+        judge(tally, "check", expected, plain, library);
+    }
 }
 
 fn read(tally: &mut Tally, file: &[u8], expected: (Said<7>, WalkerWords)) {

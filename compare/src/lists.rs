@@ -77,8 +77,8 @@ impl<'a> Machine<'a> {
 pub trait Side {
     fn read(&mut self) -> Said<7>;
     fn seek(&mut self, stream: u32, request: i64) -> Said<2>;
-    /// Cursor, frames, samples, blocks.
-    fn position(&self) -> [u64; 4];
+    /// The walker's words.
+    fn walker(&self) -> WalkerWords;
 }
 
 /// The library or the plain implementation, each with the index that it built.
@@ -121,8 +121,8 @@ impl Side for WordsSide<'_> {
             .seek_to_via_index(index, walker, stream, request)
     }
 
-    fn position(&self) -> [u64; 4] {
-        self.walker[..4].try_into().unwrap()
+    fn walker(&self) -> WalkerWords {
+        self.walker
     }
 }
 
@@ -161,9 +161,8 @@ impl Side for OriginalSide<'_> {
         }
     }
 
-    fn position(&self) -> [u64; 4] {
-        let walker = self.walker;
-        [walker.cursor, walker.frames, walker.samples, walker.blocks]
+    fn walker(&self) -> WalkerWords {
+        words::walker_words(&self.walker)
     }
 }
 
@@ -225,7 +224,7 @@ fn step(machine: &mut Machine, side: &mut dyn Side, call: Call) -> bool {
 /// What is left after a list: at a chunk the side's position is the chunk's, and its reads give the packets from there on.
 pub fn ends_same(machine: &mut Machine, side: &mut dyn Side) -> bool {
     let at = machine.packets.get(machine.position);
-    let placed = at.is_none_or(|(_, before)| *before == side.position());
+    let placed = at.is_none_or(|(_, before)| side.walker().starts_with(before));
     placed && left_same(machine, side)
 }
 

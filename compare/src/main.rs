@@ -8,6 +8,7 @@
 //! docs/DIFFERENCES.md, or it fails. The second form stores answers for the program `vectors`.
 
 mod calls;
+mod cuts;
 mod files;
 mod grammar;
 mod interface;

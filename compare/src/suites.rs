@@ -4,6 +4,7 @@ use plain::words::{self, WalkerWords, WriterWords};
 use plain::{AUDIO, PRELUDE, RECORD, Record, VIDEO, Walker, Writer};
 
 use crate::calls::{self, Guarded};
+use crate::cuts;
 use crate::files;
 use crate::lists;
 use crate::original;
@@ -55,10 +56,12 @@ pub fn exhaustive(tally: &mut Tally, random: &mut Random) {
     registers::short(tally);
     pages::short(tally);
     sounds::short(tally);
+    cuts::short(tally);
     for _ in 0..20 {
         pieces::bodies(tally, random);
     }
     for file in files::shapes() {
+        cuts::everywhere(tally, &file);
         for cut in 0..=file.len() {
             whole_file(tally, &file[..cut], RECORD);
             for at in cut.saturating_sub(60)..=cut {
@@ -166,6 +169,7 @@ pub fn round(tally: &mut Tally, random: &mut Random) {
     lists::reads_and_seeks(tally, random, &file);
     registers::list(tally, random, &file);
     pages::of_recording(tally, &file);
+    cuts::round(tally, random, &file);
 }
 
 /// Mostly paired, so that long lists pass or fail late.
