@@ -139,31 +139,48 @@ fn every_jump_has_its_own_sound_and_clock() {
     assert_eq!(demuxer.cursor(), before);
 }
 
+/// Where the first tag, size or body of the prelude starts that does not end within so many bytes. Each has 4 bytes, but the two bodies.
+fn first_item_lost(len: usize) -> u64 {
+    let starts = [
+        0, 8, 12, 20, 24, 28, 32, 88, 96, 100, 104, 164, 168, 208, 216, 220, 224, 276, 280, 284,
+        304, 312,
+    ];
+    let end = |start| match start {
+        32 => 88,
+        284 => 304,
+        _ => start + 4,
+    };
+    let lost = starts.into_iter().find(|start| end(*start) > len);
+    lost.unwrap() as u64
+}
+
 #[test]
 fn every_cut_is_told_and_leaves_the_packets_before_it() {
     let packets = packets();
     let file = write(&packets);
     let ends = ends(&packets);
-    for len in 0..file.len() {
+    let all = drain(&mut AmvDemuxer::open(&file).unwrap());
+    assert_eq!(sent(&all), packets);
+    for len in 0..=file.len() {
         let cut = &file[..len];
-        let refused = check(cut).unwrap_err();
         if len < 316 {
-            assert_eq!(refused.number, 11);
-            assert!(AmvDemuxer::open(cut).is_err());
+            let place = first_item_lost(len);
+            let refused = Some(AmvError { number: 11, place });
+            assert_eq!(check(cut).err(), refused);
+            assert_eq!(AmvDemuxer::open(cut).err(), refused);
+            assert_eq!(AmvDemuxer::open_strict(cut).err(), refused);
             continue;
         }
+        // At full length the trailer is met, and nothing is cut.
+        let finished = len == file.len();
         let whole = ends.iter().filter(|end| **end <= len).count() - 1;
-        assert_eq!(
-            refused,
-            AmvError {
-                number: 60,
-                place: ends[whole] as u64
-            }
-        );
+        let place = ends[whole] as u64;
+        let refused = AmvError { number: 60, place };
+        assert_eq!(check(cut).err(), (!finished).then_some(refused));
         let mut demuxer = AmvDemuxer::open(cut).unwrap();
-        assert_eq!(sent(&drain(&mut demuxer)), packets[..whole]);
-        assert!(demuxer.is_truncated());
-        assert_eq!(demuxer.trailer_offset(), None);
+        assert_eq!(drain(&mut demuxer), all[..whole]);
+        assert_eq!(demuxer.is_truncated(), !finished);
+        assert_eq!(demuxer.trailer_offset(), finished.then_some(place));
     }
 }
 
