@@ -1,7 +1,7 @@
 //! Whole lists of calls: reads and seeks on a finished recording against the plain machine, and writing calls from a fresh state.
 
 use plain::words::{self, WalkerWords};
-use plain::{Answer, Packet, Walker, Writer, ask};
+use plain::{Answer, Packet, TRAILER, Walker, Writer, ask};
 
 use crate::calls;
 use crate::files;
@@ -242,7 +242,7 @@ fn left_same(machine: &mut Machine, side: &mut dyn Side) -> bool {
 }
 
 /// A list of writing calls from a fresh state; if a header and a trailer were accepted, the file is finished and holds the packets
-/// that were accepted.
+/// that were accepted. So it does with a trailer put behind it, if a header was accepted and no trailer.
 pub fn writing_calls(tally: &mut Tally, random: &mut Random) {
     let settings = plain::Settings {
         width: random.word32(),
@@ -277,8 +277,9 @@ pub fn writing_calls(tally: &mut Tally, random: &mut Random) {
             Kind::Trailer => trailer = true,
         }
     }
-    if header && trailer {
-        let file = &buf[..writer[7] as usize];
+    if header {
+        let behind = if trailer { &[][..] } else { &TRAILER[..] };
+        let file = &[&buf[..writer[7] as usize], behind].concat();
         let finished = calls::check(tally, file);
         let same = finished && holds(file, &taken);
         tally.judge("list of writing calls", same, || {
