@@ -17,7 +17,9 @@
  * bytes, but for amv_validate_movi_interleave, where they are in tags, and for samples_len of amv_decode_block, which is in samples.
  *
  * Cut. A file is cut where it ends before its trailer, at a chunk or inside one: the supply dropped while it was written. What stands before
- * can be read, indexed and jumped to.
+ * can be read, indexed and jumped to. Of every finished recording, cut to any length, it is proved: reads from a fresh walker give exactly the
+ * packets whose chunk ends within the cut, each as in the whole recording, then End, with cut set; amv_check gives 60 at the first chunk that is
+ * lost. Below 316 bytes, AMV_PRELUDE_LEN, amv_parse and amv_check give 11.
  */
 #ifndef AMV_H
 #define AMV_H

@@ -5,7 +5,9 @@
 //! [`AmvError`] name the numbers. Arguments stand in the order that they have in `include/amv.h`, with what a method holds left out. A
 //! refused call changes nothing.
 //!
-//! A file is cut where it ends before its trailer, at a chunk or inside one. What stands before can be read, indexed and jumped to.
+//! A file is cut where it ends before its trailer, at a chunk or inside one. What stands before can be read, indexed and jumped to. Of every
+//! finished recording, cut to any length, it is proved: reads from its start give exactly the packets whose chunk ends within the cut, each as in the
+//! whole recording, and then [`AmvDemuxer::is_truncated`] says so.
 
 use std::fmt;
 
