@@ -20,6 +20,11 @@ use Rattle.prelude.specs.declared.prelude.AmvPrelude.{AmvPrelude}
 use Rattle.prelude.proofs.Layouts.{layout-length}
 use Rattle.prelude.proofs.Local.{item-local}
 
+-- the size at 28 ends at 32: a cut to 31 bytes is told at 28, and one to 32 at the body that follows
+at-the-size : (firstCut 28 layout ≡ 28) × (firstCut 31 layout ≡ 28) × (firstCut 32 layout ≡ 32)
+unfolding layout firstCut
+at-the-size = (refl, refl, refl)
+
 module _ (n : ℕ) (file : List ℕ) where
   -- an item that does not end within them
   item-cut : (item : LayoutItem) → n < endOf item → askItem (take n file) item ≡ refused (numbered 11 (startOf item))

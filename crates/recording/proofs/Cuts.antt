@@ -1,14 +1,14 @@
 -- A finished recording, cut to n bytes: by the walk over them (walk/proofs/Cut), of which reads, index, summary and check are folds. Assumes nothing.
 use mathlib.Core.Path.{_≡_, refl, sym, ap, _∙_, subst, transport}
 use mathlib.Core.Bool.{Bool, true, false, cond}
-use mathlib.Core.List.{List, [], _∷_, _++_}
+use mathlib.Core.List.{List, [], _∷_}
 use Prim.Native.Nat.{ℕ, _+_, _≤_, _<_, min}
 use native.Mathlib.Decide.{decLe}
 use native.Mathlib.Nat.{zero-add, lt-of-not-le}
 use native.Mathlib.Omega.{arith}
 use borrow.Author.Tests.{le-leb, lt-leb, ne-eqb}
 use lib.Dec.{leb}
-use lib.ListN.{length, take, length-append, length-take}
+use lib.ListN.{length, take, length-take}
 use lib.Seq.{take-take, take-length}
 use Rattle.error.specs.Answer.{Answer, accepted, refused, numbered, andThen}
 use Rattle.error.proofs.Answers.{accepted-same}
@@ -21,16 +21,17 @@ use Rattle.prelude.specs.declared.prelude.AmvPrelude.{AmvPrelude}
 use Rattle.prelude.proofs.Cut.{parse-cut, strict-cut}
 use Rattle.prelude.proofs.Local.{parse-local, strict-local}
 use Rattle.prelude.proofs.Sentences.{prelude-sentences}
+use Rattle.demuxer.specs.Head.{countOf}
 use Rattle.demuxer.specs.Packet.{Shown}
 use Rattle.demuxer.specs.Position.{start}
 use Rattle.demuxer.specs.Read.{fresh, advanced}
 use Rattle.demuxer.specs.declared.position.Position.{Position}
 use Rattle.demuxer.specs.declared.walker.Trailer.the-variants.{At, NotMet}
-use Rattle.walk.specs.Chunks.{Chunk, chunkOf, chunkBytes, chunksBytes}
+use Rattle.walk.specs.Chunks.{Chunk, chunkOf, chunksBytes}
 use Rattle.walk.specs.Walk.{ranOut, trailer, Walk, walk, fileWalk}
 use Rattle.walk.specs.declared.Kind.{Kind}
 use Rattle.walk.specs.declared.Kind.the-variants.{Frame, Sound}
-use Rattle.walk.proofs.Chunked.{length-chunk}
+use Rattle.walk.proofs.Walks.{by-cursor}
 use Rattle.walk.proofs.Cut.{CutWalk, few, inside, whole, cut-walked}
 use Rattle.chunk_index.specs.Entry.{entry}
 use Rattle.chunk_index.specs.Index.{recorded, records, tagsKnown, indexOf}
@@ -41,9 +42,9 @@ use Rattle.recording.specs.Grammar.{Finished}
 use Rattle.recording.specs.Drain.{drain, drainFrom, frames, samples, blocks}
 use Rattle.recording.specs.Summary.{packetCounts}
 use Rattle.recording.specs.Cut.{wholeChunk, recordedPart, endWithin, survivors, ReadsUntilEnd, offsetOf, endedAt, Survives, CutRecordings}
-use Rattle.recording.proofs.Positions.{passed, shownAt, positionAt, drainAt, drain-cons, length-drain, counted}
+use Rattle.recording.proofs.Positions.{passed, past-passed, shownAt, positionAt, drainAt, drain-cons, length-drain, counted}
 use Rattle.recording.proofs.Drains.{wholesOf, stopOf, all-whole, at-trailer, endedBy, reads-drain}
-use Rattle.recording.proofs.Within.{whole-part, recorded-part, none-within, kept-within, lost-within, first-within, kept-number, all-kept}
+use Rattle.recording.proofs.Within.{length-more, whole-part, recorded-part, none-within, kept-within, lost-within, first-within, kept-number, all-kept}
 use Rattle.recording.proofs.Summaries.{walk-counts}
 use Rattle.recording.proofs.Tables.{marks, recorded-whole, past-whole, tags-known, finished-walk, index-marks}
 use Rattle.recording.proofs.Checks.{within, finished-strict}
@@ -124,12 +125,10 @@ module _ (n : ℕ) where
   check-cut (inside {missing = missing} a b z) p paired =
       rw (ne-eqb missing 0 (λ e. omega arith)) (ap (λ (place : ℕ). refused (numbered 60 place)) (omega arith))
   check-cut (whole {kind = kind} {payload = payload} {rest = rest} l later) p paired =
-      rw (past-whole p kind payload) (check-cut later (passed p kind payload) paired ∙ ap (λ (place : ℕ). refused (numbered 60 place)) (on kind))
-    where
-      on : (k : Kind) → passed p k payload .cursor + length (chunksBytes (wholesOf rest))
-          ≡ p .cursor + length (chunkBytes (chunkOf k payload) ++ chunksBytes (wholesOf rest))
-      on Frame = omega (arith, length-append (chunkBytes (chunkOf Frame payload)) (chunksBytes (wholesOf rest)), length-chunk Frame payload)
-      on Sound = omega (arith, length-append (chunkBytes (chunkOf Sound payload)) (chunksBytes (wholesOf rest)), length-chunk Sound payload)
+      let on = ap (λ (q : Position). q .cursor) (sym (past-passed p kind payload refl)) ∙ by-cursor p kind (length payload) (countOf payload) in
+      let more = length-more (chunkOf kind payload) (wholesOf rest) in
+      rw (past-whole p kind payload)
+      (check-cut later (passed p kind payload) paired ∙ ap (λ (place : ℕ). refused (numbered 60 place)) (omega arith))
 
 -- ---- the walker that is left
 

@@ -18,6 +18,16 @@ at-the-cut : let cs = chunkOf Frame (1 ∷ 2 ∷ 3 ∷ []) ∷ [] in (survivors 
 unfolding endWithin drainFrom
 at-the-cut = (refl, refl)
 
+-- its record asks for the 8 bytes of its header alone, which end at 324; that of a block of 10 for 8 more, which end at 332
+at-the-record : let frame = chunkOf Frame (1 ∷ 2 ∷ 3 ∷ []) ∷ [] in
+    let block = chunkOf Sound (0 ∷ 0 ∷ 0 ∷ 0 ∷ 2 ∷ 0 ∷ 0 ∷ 0 ∷ 17 ∷ 34 ∷ []) ∷ [] in
+    (endWithin {A = ℕ} recordedPart 324 316 frame (1 ∷ []) ≡ 1 ∷ [])
+    × (endWithin {A = ℕ} recordedPart 323 316 frame (1 ∷ []) ≡ [])
+    × (endWithin {A = ℕ} recordedPart 332 316 block (1 ∷ []) ≡ 1 ∷ [])
+    × (endWithin {A = ℕ} recordedPart 331 316 block (1 ∷ []) ≡ [])
+unfolding endWithin
+at-the-record = (refl, refl, refl, refl)
+
 -- a part of a chunk that has its header
 pub record Part (part : Chunk → ℕ) : Type 0 where
   pub least : (c : Chunk) → 8 ≤ part c
@@ -73,13 +83,26 @@ module _ {A : Type 0} {part : Chunk → ℕ} (k : Part part) (n : ℕ) where
 
 -- ---- by the bytes of the chunks
 
-length-more : (c : Chunk) (cs : List Chunk) → length (chunksBytes (c ∷ cs)) ≡ wholeChunk c + length (chunksBytes cs)
+pub length-more : (c : Chunk) (cs : List Chunk) → length (chunksBytes (c ∷ cs)) ≡ wholeChunk c + length (chunksBytes cs)
 unfolding chunksBytes
 length-more (chunkOf kind payload) cs =
     length-append (chunkBytes (chunkOf kind payload)) (chunksBytes cs) ∙ ap (λ (k : ℕ). k + length (chunksBytes cs)) (length-chunk kind payload)
 
 module _ {A : Type 0} (n : ℕ) where
-  -- element number k is kept exactly when as many bytes and one chunk more end within the cut
+  -- element number k is kept exactly when as many bytes and one chunk more end within the cut: where the first chunk does, by the rest
+  kept-number-on : (at : ℕ) (c : Chunk) (cs : List Chunk) (x : A) (xs : List A) (k : ℕ)
+      → (at + wholeChunk c ≤ n
+      → (at + length (chunksBytes (c ∷ take k cs)) ≤ n → k < suc (length (endWithin wholeChunk n (at + wholeChunk c) cs xs)))
+      × (k < suc (length (endWithin wholeChunk n (at + wholeChunk c) cs xs)) → at + length (chunksBytes (c ∷ take k cs)) ≤ n))
+      → (at + length (chunksBytes (c ∷ take k cs)) ≤ n → k < length (endWithin wholeChunk n at (c ∷ cs) (x ∷ xs)))
+      × (k < length (endWithin wholeChunk n at (c ∷ cs) (x ∷ xs)) → at + length (chunksBytes (c ∷ take k cs)) ≤ n)
+  kept-number-on at c cs x xs k on =
+      let s = length-more c (take k cs) in
+      elim (decLe (at + wholeChunk c) n) [
+        | yes l ↦ rw (kept-within whole-part n at c cs x xs l) (on l)
+        | no l ↦ rw (lost-within whole-part n at c cs x xs (lt-of-not-le l)) ((λ i. omega (arith, lt-of-not-le l)), λ i. absurd (omega arith))
+      ]
+
   pub kept-number : (at : ℕ) (cs : List Chunk) (xs : List A) → length xs ≡ length cs → (k : ℕ) → k < length cs
       → let kept = length (endWithin wholeChunk n at cs xs) in
       let end = at + length (chunksBytes (take (suc k) cs)) in
@@ -89,19 +112,12 @@ module _ {A : Type 0} (n : ℕ) where
   kept-number at (c ∷ cs) (x ∷ xs) e zero h =
       let s = length-more c [] in
       let z : length (chunksBytes []) ≡ 0 = unfold chunksBytes in refl in
-      elim (decLe (at + wholeChunk c) n) [
-        | yes l ↦ rw (kept-within whole-part n at c cs x xs l) ((λ i. omega arith), λ i. omega arith)
-        | no l ↦ rw (lost-within whole-part n at c cs x xs (lt-of-not-le l)) ((λ i. omega (arith, lt-of-not-le l)), λ i. absurd (omega arith))
-      ]
+      kept-number-on at c cs x xs zero (λ l. ((λ i. omega arith), λ i. omega arith))
   kept-number at (c ∷ cs) (x ∷ xs) e (suc k) h =
       let s = length-more c (take (suc k) cs) in
       let r = kept-number (at + wholeChunk c) cs xs (omega arith) k (omega arith) in
-      elim (decLe (at + wholeChunk c) n) [
-        | yes l ↦
-            rw (kept-within whole-part n at c cs x xs l)
-            ((λ i. let j = r .0 (omega arith) in omega arith), λ i. let j = r .1 (omega arith) in omega arith)
-        | no l ↦ rw (lost-within whole-part n at c cs x xs (lt-of-not-le l)) ((λ i. omega (arith, lt-of-not-le l)), λ i. absurd (omega arith))
-      ]
+      kept-number-on at c cs x xs (suc k)
+      (λ l. ((λ i. let j = r .0 (omega arith) in omega arith), λ i. let j = r .1 (omega arith) in omega arith))
 
   -- all of them where all bytes do
   pub all-kept : (at : ℕ) (cs : List Chunk) (xs : List A) → length xs ≡ length cs → at + length (chunksBytes cs) ≤ n → endWithin wholeChunk n at cs xs ≡ xs

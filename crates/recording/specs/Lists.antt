@@ -61,7 +61,8 @@ unfoldable pub readsSay : List Shown → List CallAnswer
 readsSay [] = readAnswer End ∷ []
 readsSay (p ∷ ps) = readAnswer (packet p) ∷ readsSay ps
 
--- 02, M-107, of a step's reads from a state on: they give the packets that survive a cut to n bytes, then End, and leave a state that is as said
+-- 02, M-107, of reads from a first state on: they give the packets that survive a cut to n bytes, then End, and the state that they leave stands
+-- for the walker that has ended at the first chunk that is lost, with cut set and no trailer met
 abbrev pub DrainsCut : {S : Type 0} → (S → Walker → Type 0) → (S → Call → CallAnswer → S → Type 0) → S → List Chunk → ℕ → Type 0
 DrainsCut {S} Is Step first cs n =
     (said : List CallAnswer) (last : S) → CallsRan Step first (readsFor (survivors n cs)) said last
