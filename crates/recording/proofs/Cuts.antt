@@ -1,7 +1,7 @@
 -- A finished recording, cut to n bytes: by the walk over them (walk/proofs/Cut), of which reads, index, summary and check are folds. Assumes nothing.
 use mathlib.Core.Path.{_≡_, refl, sym, ap, _∙_, subst, transport}
-use mathlib.Core.Bool.{Bool, true, false, cond}
-use mathlib.Core.List.{List, [], _∷_}
+use mathlib.Core.Bool.{Bool, true, false}
+use mathlib.Core.List.{List, _∷_}
 use Prim.Native.Nat.{ℕ, _+_, _≤_, _<_, min}
 use native.Mathlib.Decide.{decLe}
 use native.Mathlib.Nat.{zero-add, lt-of-not-le}
@@ -24,7 +24,7 @@ use Rattle.prelude.proofs.Sentences.{prelude-sentences}
 use Rattle.demuxer.specs.Head.{countOf}
 use Rattle.demuxer.specs.Packet.{Shown}
 use Rattle.demuxer.specs.Position.{start}
-use Rattle.demuxer.specs.Read.{fresh, advanced}
+use Rattle.demuxer.specs.Read.{fresh}
 use Rattle.demuxer.specs.declared.position.Position.{Position}
 use Rattle.demuxer.specs.declared.walker.Trailer.the-variants.{At, NotMet}
 use Rattle.walk.specs.Chunks.{Chunk, chunkOf, chunksBytes}
@@ -40,21 +40,18 @@ use Rattle.chunk_index.specs.declared.entry.ChunkIndexEntry.{ChunkIndexEntry}
 use Rattle.finished.specs.Check.{checkFrom, allPaired, checkChunks, checkOf}
 use Rattle.recording.specs.Grammar.{Finished}
 use Rattle.recording.specs.Drain.{drain, drainFrom, frames, samples, blocks}
+use Rattle.recording.specs.Indexed.{wholesOf, stopOf}
 use Rattle.recording.specs.Summary.{packetCounts}
 use Rattle.recording.specs.Cut.{wholeChunk, recordedPart, endWithin, survivors, ReadsUntilEnd, offsetOf, endedAt, Survives, CutRecordings}
 use Rattle.recording.proofs.Positions.{passed, past-passed, shownAt, positionAt, drainAt, drain-cons, length-drain, counted}
-use Rattle.recording.proofs.Drains.{wholesOf, stopOf, all-whole, at-trailer, endedBy, reads-drain}
+use Rattle.recording.proofs.Drains.{all-whole, at-trailer, standing, endedBy, ReadWalk, read-walk, reads-drain}
 use Rattle.recording.proofs.Within.{length-more, whole-part, recorded-part, none-within, kept-within, lost-within, first-within, kept-number, all-kept}
 use Rattle.recording.proofs.Summaries.{walk-counts}
-use Rattle.recording.proofs.Tables.{marks, recorded-whole, past-whole, tags-known, finished-walk, index-marks}
+use Rattle.recording.proofs.Tables.{marks, either, recorded-whole, past-whole, tags-known, finished-walk, index-marks}
 use Rattle.recording.proofs.Checks.{within, finished-strict}
 use Rattle.recording.proofs.Writes.{unfinished}
 
 -- ---- along the walk over the cut file
-
-either : {A : Type 0} (t : Bool) (x : A) → cond t x x ≡ x
-either true x = refl
-either false x = refl
 
 module _ (n : ℕ) where
   -- its whole chunks are the first ones
@@ -198,11 +195,14 @@ module _ (file : List ℕ) (cs : List Chunk) (fin : Finished file cs) where
           ∙ check-cut n cut-walk start (allPaired (take n file))
           ∙ ap (λ (l : List Chunk). refused (numbered 60 (preludeLen + length (chunksBytes l)))) first-chunks
 
+      reads : Bytes file → ReadWalk (take n file) start (fileWalk (take n file))
+      reads bytes = read-walk (take n file) (bytes-take n file bytes) fits (all-known n cut-walk preludeLen)
+
       drained : Bytes file → ReadsUntilEnd (take n file) fresh (survivors n cs) (endedAt cs (length (survivors n cs)) true NotMet)
       drained bytes =
-          let r = reads-drain (take n file) (bytes-take n file bytes) fits (all-known n cut-walk preludeLen) in
+          let r = reads-drain (reads bytes) false NotMet in
           let p = ended-position cs (wholesOf (fileWalk (take n file))) (length (survivors n cs)) first-chunks in
-          transport (λ i. ReadsUntilEnd (take n file) fresh (sym survivors-are i) (endedBy (runs-out n cut-walk i) (advanced fresh (p i)))) r
+          transport (λ i. ReadsUntilEnd (take n file) fresh (sym survivors-are i) (endedBy (runs-out n cut-walk i) (standing (p i) false NotMet))) r
 
       survives : Bytes file → Survives file cs n
       unfolding indexOf summaryOf
@@ -222,7 +222,7 @@ module _ (file : List ℕ) (cs : List Chunk) (fin : Finished file cs) where
             first-records = first-within recorded-part n preludeLen cs;
             counted =
                 rw (room, known)
-                (ap accepted (walk-counts (take n file) ∙ ap packetCounts (sym survivors-are)));
+                (ap accepted (walk-counts (reads bytes) ∙ ap packetCounts (sym survivors-are)));
           }
 
   -- all of it
@@ -230,11 +230,11 @@ module _ (file : List ℕ) (cs : List Chunk) (fin : Finished file cs) where
       → ReadsUntilEnd (take (length file) file) fresh (drain cs) (endedAt cs (length cs) false (At (offsetOf cs (length cs))))
   at-full-length bytes =
       let w = finished-walk file cs fin in
-      let r = reads-drain file bytes (fin .fits) (ap (tagsKnown preludeLen) w ∙ tags-known preludeLen cs 0) in
+      let r = reads-drain (read-walk file bytes (fin .fits) (ap (tagsKnown preludeLen) w ∙ tags-known preludeLen cs 0)) false NotMet in
       let d : wholesOf (fileWalk file) ≡ cs = ap wholesOf w ∙ all-whole cs 0 in
       let s : stopOf (fileWalk file) ≡ trailer 0 = ap stopOf w ∙ at-trailer cs 0 in
       let p = ap (λ (l : List Chunk). positionAt start (length l) l) d ∙ ended-position cs cs (length cs) (sym (take-length cs)) in
-      rw (take-length file) (transport (λ i. ReadsUntilEnd file fresh (drain (d i)) (endedBy (s i) (advanced fresh (p i)))) r)
+      rw (take-length file) (transport (λ i. ReadsUntilEnd file fresh (drain (d i)) (endedBy (s i) (standing (p i) false NotMet))) r)
 
 pub cut-recordings : CutRecordings
 cut-recordings =

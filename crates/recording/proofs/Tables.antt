@@ -1,6 +1,6 @@
 -- The index of a finished recording: a record for each chunk, written and read back. Assumes nothing.
 use mathlib.Core.Path.{_≡_, refl, sym, ap, ap₂, _∙_}
-use mathlib.Core.Bool.{Bool, true, false}
+use mathlib.Core.Bool.{Bool, true, false, cond}
 use mathlib.Core.List.{List, [], _∷_, _++_, append-assoc, append-nil}
 use Prim.Native.Nat.{ℕ, _+_, _*_, _/_, _^_, _≤_, _<_, min}
 use native.Mathlib.Nat.{add-zero}
@@ -37,6 +37,11 @@ use Rattle.recording.proofs.Positions.{passed, Bounded, stepped, bytes-
 unfoldable pub marks : Position → List Chunk → List ChunkIndexEntry
 marks p [] = []
 marks p (chunkOf kind payload ∷ cs) = entry kind p ∷ marks (passed p kind payload) cs
+
+-- what a test leaves as it is
+pub either : {A : Type 0} (t : Bool) (x : A) → cond t x x ≡ x
+either true x = refl
+either false x = refl
 
 pub recorded-whole : (kind : Kind) (payload : List ℕ) → recorded kind payload 0 ≡ true
 recorded-whole Frame payload = refl

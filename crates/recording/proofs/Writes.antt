@@ -35,9 +35,10 @@ use Rattle.recording.specs.Drain.{drain, drainFrom}
 use Rattle.recording.specs.Grammar.{Passes, Finished}
 use Rattle.recording.specs.WriteLists.{WriteCall, header, packet, trailer, writeStep, kept, acceptedCalls, writerAfter, bufferAfter, writtenFile}
 use Rattle.recording.specs.WriteLists.{Sent, sentBy, sentIn, Held, Completed, Drains, WritesDrain}
+use Rattle.recording.specs.Indexed.{wholesOf}
 use Rattle.recording.specs.Cut.{UnderWay}
 use Rattle.recording.proofs.Tables.{finished-walk}
-use Rattle.recording.proofs.Drains.{wholesOf, all-whole}
+use Rattle.recording.proofs.Drains.{all-whole}
 
 -- ---- chunks, one more
 

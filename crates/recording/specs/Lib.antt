@@ -3,6 +3,7 @@ pub mod Grammar
 pub mod Drain
 pub mod Machine
 pub mod Check
+pub mod Indexed
 pub mod Summary
 pub mod WriteLists
 pub mod Cut
