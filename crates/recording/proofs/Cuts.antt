@@ -47,7 +47,7 @@ use Rattle.recording.proofs.Positions.{passed, past-passed, shownAt, po
 use Rattle.recording.proofs.Drains.{all-whole, at-trailer, standing, endedBy, ReadWalk, read-walk, reads-drain}
 use Rattle.recording.proofs.Within.{length-more, whole-part, recorded-part, none-within, kept-within, lost-within, first-within, kept-number, all-kept}
 use Rattle.recording.proofs.Summaries.{walk-counts}
-use Rattle.recording.proofs.Tables.{marks, either, recorded-whole, past-whole, tags-known, finished-walk, index-marks}
+use Rattle.recording.proofs.Tables.{recordsOf, either, recorded-whole, past-whole, tags-known, finished-walk, index-finished}
 use Rattle.recording.proofs.Checks.{within, finished-strict}
 use Rattle.recording.proofs.Writes.{unfinished}
 
@@ -99,14 +99,14 @@ module _ (n : ℕ) where
       ]
 
   records-cut : {at : ℕ} {cs : List Chunk} {w : Walk} → CutWalk n at cs w → (p : Position)
-      → records p w ≡ endWithin recordedPart n at cs (marks p cs)
-  unfolding records marks
-  records-cut {at} {cs} (few l) p = sym (none-within recorded-part n at cs (marks p cs) l)
+      → records p w ≡ endWithin recordedPart n at cs (recordsOf p cs)
+  unfolding records recordsOf
+  records-cut {at} {cs} (few l) p = sym (none-within recorded-part n at cs (recordsOf p cs) l)
   records-cut {at} (inside {kind = kind} {payload = payload} {part = part} {missing = missing} {cs = cs} a b z) p =
       unfold endWithin in
       rw (
         recorded-cut kind part missing at payload a b,
-        none-within recorded-part n (at + (8 + length payload)) cs (marks (passed p kind payload) cs) (omega arith),
+        none-within recorded-part n (at + (8 + length payload)) cs (recordsOf (passed p kind payload) cs) (omega arith),
       )
   records-cut {at} (whole {kind = kind} {payload = payload} {cs = cs} l rest) p =
       let m = recorded-part .most (chunkOf kind payload) in
@@ -218,7 +218,7 @@ module _ (file : List ℕ) (cs : List Chunk) (fin : Finished file cs) where
                 rw (room, known)
                 (ap accepted
                 (records-cut n cut-walk start
-                ∙ ap (endWithin recordedPart n preludeLen cs) (accepted-same (sym (index-marks file cs fin) ∙ e))));
+                ∙ ap (endWithin recordedPart n preludeLen cs) (accepted-same (sym (index-finished file cs fin) ∙ e))));
             first-records = first-within recorded-part n preludeLen cs;
             counted =
                 rw (room, known)

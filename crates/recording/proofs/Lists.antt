@@ -35,7 +35,7 @@ use Rattle.recording.specs.Machine.{readAnswer, seekAnswer, CallOutcome,
 use Rattle.recording.specs.Machine.{AtChunk, Agreement, OwnIndex, ReadsAndSeeks, HasIndex}
 use Rattle.recording.proofs.Positions.{passed, shownAt, positionAt, length-drain, Here, here, chunks-split, counted, bounded}
 use Rattle.chunk_index.proofs.Entries.{length-table}
-use Rattle.recording.proofs.Tables.{marks, index-marks, table-back, marks-fit}
+use Rattle.recording.proofs.Tables.{recordsOf, index-finished, table-back, records-fit}
 use Rattle.recording.proofs.Seeks.{Finds, hit, miss, finds, all-good, last-range}
 use Rattle.recording.proofs.Readings.{read-chunk, read-trailer, read-ended}
 
@@ -188,41 +188,41 @@ module _ (file : List ℕ) (cs : List Chunk) (all : Bytes file) (fin : Finished 
 
   -- ---- the index
 
-  pub index-fits : entriesOf (tableBytes (marks start cs)) ≡ marks start cs
+  pub index-fits : entriesOf (tableBytes (recordsOf start cs)) ≡ recordsOf start cs
   index-fits =
       let f = fin .fits in
       let z = size in
-      table-back (marks start cs) (marks-fit start cs chunk-bytes (omega arith) (omega arith) (omega arith) (omega arith))
+      table-back (recordsOf start cs) (records-fit start cs chunk-bytes (omega arith) (omega arith) (omega arith) (omega arith))
 
-  all-fine : goodEntries (marks start cs) ≡ accepted tt
+  all-fine : goodEntries (recordsOf start cs) ≡ accepted tt
   all-fine =
       let f = fin .fits in
       let z = size in
       all-good 0 start cs chunk-bytes (omega arith)
 
-  end-range : (p : Position) → InRange p → InRange (pastLast p (marks start cs))
+  end-range : (p : Position) → InRange p → InRange (pastLast p (recordsOf start cs))
   end-range p r =
       let f = fin .fits in
       let z = size in
       last-range p start cs chunk-bytes r (omega arith) (omega arith) (omega arith) (omega arith)
 
   module _ (table : List ℕ) (own : OwnIndex file table) where
-    own-entries : own .entries ≡ marks start cs
-    own-entries = same (sym (own .indexed) ∙ index-marks file cs fin)
+    own-entries : own .entries ≡ recordsOf start cs
+    own-entries = same (sym (own .indexed) ∙ index-finished file cs fin)
       where
         same : {a b : List ChunkIndexEntry} → accepted a ≡ accepted b → a ≡ b
         same e = cc
 
-    own-table : table ≡ tableBytes (marks start cs)
+    own-table : table ≡ tableBytes (recordsOf start cs)
     own-table = own .is ∙ ap tableBytes own-entries
 
-    pub own-marks : entriesOf table ≡ marks start cs
-    own-marks = ap entriesOf own-table ∙ index-fits
+    pub own-records : entriesOf table ≡ recordsOf start cs
+    own-records = ap entriesOf own-table ∙ index-fits
 
     own-good : tableQuestions table ≡ accepted tt
     own-good =
-        let whole : length table % entryLen ≡ 0 = omega (arith, ap length own-table, length-table (marks start cs)) in
-        rw (eq-eqb (length table % entryLen) 0 whole, own-marks, all-fine)
+        let whole : length table % entryLen ≡ 0 = omega (arith, ap length own-table, length-table (recordsOf start cs)) in
+        rw (eq-eqb (length table % entryLen) 0 whole, own-records, all-fine)
 
     -- ---- a seek
 
@@ -233,10 +233,10 @@ module _ (file : List ℕ) (cs : List Chunk) (all : Bytes file) (fin : Finished 
     seekStep stream request = onSeek (first stream request (drain cs)) (getElem? (drain cs) (first stream request (drain cs)))
 
     seek-lands : (w : Walker) (stream : ℕ) (request : ℤ) → leb stream 1 ≡ true → InRange (w .position)
-        → seekOf table w stream request ≡ landed (marks start cs) w stream (find stream request (marks start cs))
+        → seekOf table w stream request ≡ landed (recordsOf start cs) w stream (find stream request (recordsOf start cs))
     seek-lands w stream request s r =
         when-accepted table w stream request (all-pass table w stream s own-good (in-range (w .position) r))
-        ∙ ap (λ (es : List ChunkIndexEntry). landed es w stream (find stream request es)) own-marks
+        ∙ ap (λ (es : List ChunkIndexEntry). landed es w stream (find stream request es)) own-records
 
     seek-refused : (w : Walker) (stream : ℕ) (request : ℤ) → leb stream 1 ≡ false
         → seekOf table w stream request ≡ record { answer = refused (numbered 42 0); walker = w }
@@ -296,4 +296,4 @@ pub reads-and-seeks : ReadsAndSeeks
 reads-and-seeks file cs all fin table own calls = whole file cs all fin table own calls
 
 pub has-index : HasIndex
-has-index file cs all fin = (tableBytes (marks start cs), record { entries = marks start cs; indexed = index-marks file cs fin; is = refl })
+has-index file cs all fin = (tableBytes (recordsOf start cs), record { entries = recordsOf start cs; indexed = index-finished file cs fin; is = refl })

@@ -28,7 +28,7 @@ use Rattle.walk.proofs.Chunked.{length-chunk}
 use Rattle.recording.specs.Drain.{drainFrom}
 use Rattle.recording.specs.Machine.{first}
 use Rattle.recording.proofs.Positions.{passed, shownAt, positionAt, drainAt, drain-cons, stepped, bytes-payload}
-use Rattle.recording.proofs.Tables.{marks}
+use Rattle.recording.proofs.Tables.{recordsOf}
 
 -- the machine's test of a packet
 abbrev pub meets : ℕ → ℤ → Shown → Bool
@@ -65,17 +65,17 @@ pub record Hit (stream : ℕ) (request : ℤ) (p : Position) (cs : List Chunk) :
   pub at : Position
   pub first-is : first stream request (drainAt p cs) ≡ num
   pub inside : num < length cs
-  pub found : find stream request (marks p cs) ≡ some at
+  pub found : find stream request (recordsOf p cs) ≡ some at
   pub at-is : at ≡ positionAt p num cs
   pub shown-is : getElem? (drainAt p cs) num ≡ some shown
   pub stamp-is : shown .stamp ≡ stampOf stream at
 
 pub data Finds (stream : ℕ) (request : ℤ) (p : Position) (cs : List Chunk) : Type 0 where
   hit : Hit stream request p cs → Finds stream request p cs
-  miss : find stream request (marks p cs) ≡ none → first stream request (drainAt p cs) ≡ length cs → Finds stream request p cs
+  miss : find stream request (recordsOf p cs) ≡ none → first stream request (drainAt p cs) ≡ length cs → Finds stream request p cs
 
 pub finds : (stream : ℕ) (request : ℤ) (p : Position) (cs : List Chunk) → stream ≤ 1 → Finds stream request p cs
-unfolding find positionAt marks
+unfolding find positionAt recordsOf
 finds stream request p [] h = unfold drainFrom first in (miss refl refl)
 finds stream request p (chunkOf kind payload ∷ cs) h = go _ refl (finds stream request (passed p kind payload) cs h)
   where
@@ -109,19 +109,19 @@ finds stream request p (chunkOf kind payload ∷ cs) h = go _ refl (finds stream
 
 -- ---- every record is good
 
-good-mark : (p : Position) (kind : Kind) → p .samples .0 < countLimit → goodEntry (entry kind p) ≡ true
-good-mark p Frame h = lt-ltb (p .samples .0) countLimit h
-good-mark p Sound h = lt-ltb (p .samples .0) countLimit h
+good-record : (p : Position) (kind : Kind) → p .samples .0 < countLimit → goodEntry (entry kind p) ≡ true
+good-record p Frame h = lt-ltb (p .samples .0) countLimit h
+good-record p Sound h = lt-ltb (p .samples .0) countLimit h
 
 pub all-good : (place : ℕ) (p : Position) (cs : List Chunk) → Bytes (chunksBytes cs)
-    → p .samples .0 + 268435456 * length (chunksBytes cs) < countLimit → askEach goodEntry 43 place (marks p cs) ≡ accepted tt
-unfolding askEach marks chunksBytes
+    → p .samples .0 + 268435456 * length (chunksBytes cs) < countLimit → askEach goodEntry 43 place (recordsOf p cs) ≡ accepted tt
+unfolding askEach recordsOf chunksBytes
 all-good place p [] y h = refl
 all-good place p (chunkOf kind payload ∷ cs) y h =
     let l = length-append (chunkBytes (chunkOf kind payload)) (chunksBytes cs) in
     let m = length-chunk kind payload in
     let t = stepped p kind payload (bytes-payload kind payload _ y) in
-    rw (good-mark p kind (omega arith))
+    rw (good-record p kind (omega arith))
     (all-good (place + entryLen) (passed p kind payload) cs (bytes-right (chunkBytes (chunkOf kind payload)) _ y) (omega arith))
 
 -- ---- the position that a seek to the end leaves is in range
@@ -134,8 +134,8 @@ beyond-range p Sound a b c d = record { cursor-in = a; frames-in = omega arith; 
 pub last-range : (q p : Position) (cs : List Chunk) → Bytes (chunksBytes cs) → InRange q
     → p .cursor + length (chunksBytes cs) + 8 ≤ countLimit → 8 * p .frames .0 + length (chunksBytes cs) < countLimit
     → p .samples .0 + 268435456 * length (chunksBytes cs) ≤ countLimit → 8 * p .blocks .0 + length (chunksBytes cs) < countLimit
-    → InRange (pastLast q (marks p cs))
-unfolding pastLast marks chunksBytes
+    → InRange (pastLast q (recordsOf p cs))
+unfolding pastLast recordsOf chunksBytes
 last-range q p [] y r a b c d = r
 last-range q p (chunkOf kind payload ∷ cs) y r a b c d =
     let l = length-append (chunkBytes (chunkOf kind payload)) (chunksBytes cs) in

@@ -35,7 +35,7 @@ use Rattle.recording.specs.Indexed.{wholesOf}
 use Rattle.recording.specs.Summary.{ofStream, packetCounts, SummaryIsDrain}
 use Rattle.recording.proofs.Positions.{passed, shownAt, drainAt, drain-cons}
 use Rattle.recording.proofs.Drains.{ReadWalk, stops, cut-short, whole, read-walk, reads-drain, packets-left}
-use Rattle.recording.proofs.Tables.{marks, either, recorded-whole, tags-known, finished-walk, index-marks}
+use Rattle.recording.proofs.Tables.{recordsOf, either, recorded-whole, tags-known, finished-walk, index-finished}
 
 -- ---- every file
 
@@ -96,18 +96,18 @@ summary-finished file cs fin =
     (ap accepted (chunks-counted noneCounted cs 0 ∙ same-counts (zero-add (frames cs)) (zero-add (blocks cs))))
 
 -- the records of chunks, by their tags
-marks-tagged : (p : Position) (cs : List Chunk) → recordCounts (marks p cs) ≡ record { frames = frames cs; blocks = blocks cs }
-unfolding marks tagged frames blocks
-marks-tagged p [] = refl
-marks-tagged p (chunkOf Frame payload ∷ cs) =
-    let r = marks-tagged (passed p Frame payload) cs in
+records-tagged : (p : Position) (cs : List Chunk) → recordCounts (recordsOf p cs) ≡ record { frames = frames cs; blocks = blocks cs }
+unfolding recordsOf tagged frames blocks
+records-tagged p [] = refl
+records-tagged p (chunkOf Frame payload ∷ cs) =
+    let r = records-tagged (passed p Frame payload) cs in
     same-counts (ap suc (ap (λ (c : ChunkCounts). c .frames) r)) (ap (λ (c : ChunkCounts). c .blocks) r)
-marks-tagged p (chunkOf Sound payload ∷ cs) =
-    let r = marks-tagged (passed p Sound payload) cs in
+records-tagged p (chunkOf Sound payload ∷ cs) =
+    let r = records-tagged (passed p Sound payload) cs in
     same-counts (ap (λ (c : ChunkCounts). c .frames) r) (ap suc (ap (λ (c : ChunkCounts). c .blocks) r))
 
 as-before : (file : List ℕ) (cs : List Chunk) → Finished file cs → summaryOf file ≡ andThen (indexOf file) (λ es. accepted (recordCounts es))
-as-before file cs fin = summary-finished file cs fin ∙ rw (index-marks file cs fin) (ap accepted (sym (marks-tagged start cs)))
+as-before file cs fin = summary-finished file cs fin ∙ rw (index-finished file cs fin) (ap accepted (sym (records-tagged start cs)))
 
 pub summary-is-drain : SummaryIsDrain
 summary-is-drain = record { plays = plays; finished = summary-finished; as-before = as-before }

@@ -34,9 +34,9 @@ use Rattle.recording.specs.Machine.{OwnIndex}
 use Rattle.recording.proofs.Positions.{passed, Bounded, stepped, bytes-payload}
 
 -- the records of chunks from a position on
-unfoldable pub marks : Position → List Chunk → List ChunkIndexEntry
-marks p [] = []
-marks p (chunkOf kind payload ∷ cs) = entry kind p ∷ marks (passed p kind payload) cs
+unfoldable pub recordsOf : Position → List Chunk → List ChunkIndexEntry
+recordsOf p [] = []
+recordsOf p (chunkOf kind payload ∷ cs) = entry kind p ∷ recordsOf (passed p kind payload) cs
 
 -- what a test leaves as it is
 pub either : {A : Type 0} (t : Bool) (x : A) → cond t x x ≡ x
@@ -51,10 +51,10 @@ pub past-whole : (p : Position) (kind : Kind) (payload : List ℕ) → past p ki
 past-whole p Frame payload = rw add-zero
 past-whole p Sound payload = rw add-zero
 
-pub records-marks : (p : Position) (cs : List Chunk) (n : ℕ) → records p (walkOf cs n) ≡ marks p cs
-unfolding marks records walkOf
-records-marks p [] n = refl
-records-marks p (chunkOf kind payload ∷ cs) n = rw (recorded-whole kind payload, past-whole p kind payload, records-marks (passed p kind payload) cs n)
+pub records-chunks : (p : Position) (cs : List Chunk) (n : ℕ) → records p (walkOf cs n) ≡ recordsOf p cs
+unfolding recordsOf records walkOf
+records-chunks p [] n = refl
+records-chunks p (chunkOf kind payload ∷ cs) n = rw (recorded-whole kind payload, past-whole p kind payload, records-chunks (passed p kind payload) cs n)
 
 pub tags-known : (at : ℕ) (cs : List Chunk) (n : ℕ) → tagsKnown at (walkOf cs n) ≡ accepted tt
 unfolding tagsKnown walkOf
@@ -68,10 +68,10 @@ finished-walk file cs fin =
     fin .is ∙ ap (λ (l : List ℕ). fin .prelude ++ (chunksBytes cs ++ l)) (sym (append-nil trailerBytes)) in
     (λ i. walk (e i) (sym (fin .whole) i)) ∙ chunks-walked (fin .prelude) cs [] (fin .lengths)
 
-pub index-marks : (file : List ℕ) (cs : List Chunk) → Finished file cs → indexOf file ≡ accepted (marks start cs)
+pub index-finished : (file : List ℕ) (cs : List Chunk) → Finished file cs → indexOf file ≡ accepted (recordsOf start cs)
 unfolding indexOf
-index-marks file cs fin =
-    rw (le-leb (length file) fileLimit (fin .fits), finished-walk file cs fin, tags-known preludeLen cs 0, records-marks start cs 0)
+index-finished file cs fin =
+    rw (le-leb (length file) fileLimit (fin .fits), finished-walk file cs fin, tags-known preludeLen cs 0, records-chunks start cs 0)
 
 -- ---- a table of records, read back
 
@@ -100,13 +100,13 @@ table-back es f =
     ap (λ (k : ℕ). entriesFrom k (tableBytes es) 0) n ∙ entries-back [] es f
 
 -- every record of few enough bytes fits
-pub marks-fit : (p : Position) (cs : List Chunk) → Bytes (chunksBytes cs)
+pub records-fit : (p : Position) (cs : List Chunk) → Bytes (chunksBytes cs)
     → p .cursor + length (chunksBytes cs) ≤ u32Max → 8 * p .frames .0 + length (chunksBytes cs) ≤ 8 * u32Max
     → 8 * p .blocks .0 + length (chunksBytes cs) ≤ 8 * u32Max → p .samples .0 + 268435456 * length (chunksBytes cs) < 18446744073709551616
-    → AllFit (marks p cs)
-unfolding marks chunksBytes
-marks-fit p [] y a b c d = tt
-marks-fit p (chunkOf kind payload ∷ cs) y a b c d =
+    → AllFit (recordsOf p cs)
+unfolding recordsOf chunksBytes
+records-fit p [] y a b c d = tt
+records-fit p (chunkOf kind payload ∷ cs) y a b c d =
     let l = length-append (chunkBytes (chunkOf kind payload)) (chunksBytes cs) in
     let m = length-chunk kind payload in
     let t : Bounded p (passed p kind payload) (8 + length payload) = stepped p kind payload (bytes-payload kind payload _ y) in (
@@ -115,7 +115,7 @@ marks-fit p (chunkOf kind payload ∷ cs) y a b c d =
         small = record { cursor-small = omega arith; frames-small = omega arith; blocks-small = omega arith };
         samples-fit = omega arith;
       },
-      marks-fit (passed p kind payload) cs (bytes-right (chunkBytes (chunkOf kind payload)) _ y) (omega arith) (omega arith) (omega arith) (omega arith),
+      records-fit (passed p kind payload) cs (bytes-right (chunkBytes (chunkOf kind payload)) _ y) (omega arith) (omega arith) (omega arith) (omega arith),
     )
 
 -- ---- what `build_chunk_index` writes is the file's own index
