@@ -331,7 +331,7 @@ through-words =
           (a .0, spells last _ (a .1));
       register-steps = λ file cs all fin table own blocks said last ran.
           let a =
-          every-step (List ℕ) Stands (RegisterStep file table) file cs all fin table own (stepping file table) _ blocks said last
+          every-step .finished Stands (RegisterStep file table) file cs all fin table own (stepping file table) _ blocks said last
           (refl, refl) ran in
           (a .0, (spells last (a .0) (a .1 .0), a .1 .1));
       writing = written;

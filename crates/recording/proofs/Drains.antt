@@ -1,7 +1,7 @@
 -- Reads of any file, along its walk: at a whole chunk every walker that has not ended is given its packet, and where the walk stops, or a chunk is
 -- cut, End. So reads until their first End give the drain of the whole chunks, and leave the walker where the walk stops. Assumes nothing.
 use mathlib.Core.Path.{_≡_, refl, sym, ap, _∙_, subst}
-use mathlib.Core.Bool.{Bool, false}
+use mathlib.Core.Bool.{Bool, true, false}
 use mathlib.Core.List.{List, [], _∷_}
 use Prim.Native.Nat.{ℕ, zero, suc, _+_, _-_, _≤_, _<_}
 use native.Mathlib.Omega.{arith}
@@ -62,7 +62,7 @@ standing p cut t = record { position = p; end = false; cut = cut; trailer = t }
 abbrev pub endedBy : Stop → Walker → Walker
 endedBy ranOut w = cutOff w
 endedBy (trailer n) w = atTrailer w
-endedBy unknownTag w = w
+endedBy unknownTag w = record { position = w .position; end = true; cut = w .cut; trailer = w .trailer }
 
 -- a position that a walk can stand at, and one where a header stands
 pub record Stood (p : Position) : Type 0 where

@@ -3,6 +3,9 @@ pub mod Positions
 pub mod Tables
 pub mod Seeks
 pub mod Readings
+pub mod Recorded
+pub mod Indexed
+pub mod Damaged
 pub mod Lists
 pub mod Drains
 pub mod Summaries

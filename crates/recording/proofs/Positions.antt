@@ -1,26 +1,18 @@
 -- Where a walker stands after k chunks. Assumes nothing.
 use mathlib.Core.Path.{_≡_, refl, sym, ap, _∙_}
-use mathlib.Core.Bool.{Bool, true, false, cond}
-use mathlib.Core.List.{List, [], _∷_, _++_, append-assoc}
+use mathlib.Core.List.{List, [], _∷_}
 use mathlib.Core.Option.{some}
-use Prim.Native.Nat.{ℕ, zero, suc, _+_, _*_, _≤_, _<_}
-use native.Mathlib.Nat.{le-of-suc-le-suc, not-suc-le-zero}
+use Prim.Native.Nat.{ℕ, zero, suc, _+_}
 use native.Mathlib.Omega.{arith}
-use borrow.Author.Tests.{leb-true}
-use lib.Dec.{leb}
-use lib.ListN.{length, take, drop, getElem?, length-append}
-use Rattle.chunk.specs.Chunk.{payloadLimit}
-use Rattle.fields.specs.Le.{le, leBytes, Bytes}
-use Rattle.fields.proofs.Laws.{le-lt, bytes-left, bytes-right}
+use lib.ListN.{length, take, length-append}
 use Rattle.demuxer.specs.Head.{countOf}
 use Rattle.demuxer.specs.Packet.{Shown, packetDuration, ticks}
 use Rattle.demuxer.specs.Position.{pastFrame, pastSound}
-use Rattle.demuxer.proofs.Bodies.{count-is}
 use Rattle.demuxer.specs.declared.position.Position.{Position}
 use Rattle.walk.specs.declared.Kind.{Kind}
 use Rattle.walk.specs.declared.Kind.the-variants.{Frame, Sound}
-use Rattle.walk.specs.Chunks.{Chunk, chunkOf, chunkBytes, chunksBytes, Lengths}
-use Rattle.walk.specs.Walk.{kindTag, pastBy}
+use Rattle.walk.specs.Chunks.{Chunk, chunkOf, chunkBytes, chunksBytes}
+use Rattle.walk.specs.Walk.{pastBy}
 use Rattle.walk.proofs.Chunked.{length-chunk}
 use Rattle.recording.specs.Drain.{drainFrom, frames, samples, blocks}
 
@@ -60,43 +52,6 @@ pub length-drain : (p : Position) (cs : List Chunk) → length (drainAt p cs) �
 length-drain p [] = unfold drainFrom in refl
 length-drain p (chunkOf kind payload ∷ cs) = ap length (drain-cons p kind payload cs) ∙ ap suc (length-drain (passed p kind payload) cs)
 
--- what stands at chunk k
-pub record Here (p : Position) (k : ℕ) (cs : List Chunk) : Type 0 where
-  pub kind : Kind
-  pub payload : List ℕ
-  pub small : length payload ≤ payloadLimit
-  pub rest : drop k cs ≡ chunkOf kind payload ∷ drop (suc k) cs
-  pub next : positionAt p (suc k) cs ≡ passed (positionAt p k cs) kind payload
-  pub shown : getElem? (drainAt p cs) k ≡ some (shownAt (positionAt p k cs) kind payload)
-  pub left : drop k (drainAt p cs) ≡ shownAt (positionAt p k cs) kind payload ∷ drop (suc k) (drainAt p cs)
-
-pub here : (p : Position) (k : ℕ) (cs : List Chunk) → Lengths cs → k < length cs → Here p k cs
-unfolding positionAt
-here p k [] l h = absurd (not-suc-le-zero h)
-here p zero (chunkOf kind payload ∷ cs) l h =
-    record { kind = kind; payload = payload; small = l .0; rest = refl; next = refl; shown = rw drain-cons; left = rw drain-cons }
-here p (suc k) (chunkOf kind payload ∷ cs) l h =
-    let i : Here (passed p kind payload) k cs = here (passed p kind payload) k cs (l .1) (le-of-suc-le-suc h) in
-    record {
-      kind = i .kind;
-      payload = i .payload;
-      small = i .small;
-      rest = i .rest;
-      next = i .next;
-      shown = rw drain-cons (i .shown);
-      left = rw drain-cons (i .left);
-    }
-
--- ---- the bytes before chunk k and those from it on
-
-pub chunks-split : (k : ℕ) (cs : List Chunk) → chunksBytes cs ≡ chunksBytes (take k cs) ++ chunksBytes (drop k cs)
-unfolding chunksBytes
-chunks-split zero cs = refl
-chunks-split (suc k) [] = refl
-chunks-split (suc k) (c ∷ cs) =
-    ap (λ (l : List ℕ). chunkBytes c ++ l) (chunks-split k cs)
-    ∙ sym (append-assoc (chunkBytes c) (chunksBytes (take k cs)) (chunksBytes (drop k cs)))
-
 -- what is counted on the way from p to q
 pub record Counted (p q : Position) (done : List Chunk) : Type 0 where
   pub cursor-is : q .cursor ≡ p .cursor + length (chunksBytes done)
@@ -114,39 +69,3 @@ counted p (suc k) (chunkOf Frame payload ∷ cs) =
 counted p (suc k) (chunkOf Sound payload ∷ cs) =
     let l = length-append (chunkBytes (chunkOf Sound payload)) (chunksBytes (take k cs)) in
     omega (arith, counted (passed p Sound payload) k cs, length-chunk Sound payload)
-
--- ---- bounds
-
-pub bytes-payload : (kind : Kind) (payload ys : List ℕ) → Bytes (chunkBytes (chunkOf kind payload) ++ ys) → Bytes payload
-unfolding chunkBytes
-bytes-payload kind payload ys b =
-    bytes-right (leBytes 4 (length payload)) payload (bytes-right (leBytes 4 (kindTag kind)) _ (bytes-left _ ys b))
-
--- a count is at most 2^28 for each byte of its chunk, which has 16 of them or more
-pub count-le : (payload : List ℕ) → Bytes payload → countOf payload ≤ 268435456 * (8 + length payload)
-count-le payload b = rw (count-is payload) (go _ refl)
-  where
-    go : (t : Bool) → leb 8 (length payload) ≡ t → cond t (le 4 payload 4) 0 ≤ 268435456 * (8 + length payload)
-    go true e = omega (arith, leb-true 8 (length payload) e, le-lt 4 payload 4 b)
-    go false e = omega arith
-
--- from p to q in n bytes
-pub record Bounded (p q : Position) (n : ℕ) : Type 0 where
-  pub cursor-le : q .cursor ≤ p .cursor + n
-  pub frames-le : 8 * q .frames .0 ≤ 8 * p .frames .0 + n
-  pub samples-le : q .samples .0 ≤ p .samples .0 + 268435456 * n
-  pub blocks-le : 8 * q .blocks .0 ≤ 8 * p .blocks .0 + n
-
--- one chunk
-pub stepped : (p : Position) (kind : Kind) (payload : List ℕ) → Bytes payload → Bounded p (passed p kind payload) (8 + length payload)
-stepped p Frame payload b = omega arith
-stepped p Sound payload b = omega (arith, count-le payload b)
-
-pub bounded : (p : Position) (k : ℕ) (cs : List Chunk) → Bytes (chunksBytes cs) → Bounded p (positionAt p k cs) (length (chunksBytes cs))
-unfolding positionAt chunksBytes
-bounded p zero cs b = omega arith
-bounded p (suc k) [] b = omega arith
-bounded p (suc k) (chunkOf kind payload ∷ cs) b =
-    let i = bounded (passed p kind payload) k cs (bytes-right (chunkBytes (chunkOf kind payload)) _ b) in
-    let j = stepped p kind payload (bytes-payload kind payload _ b) in
-    omega (arith, i, j, length-append (chunkBytes (chunkOf kind payload)) (chunksBytes cs), length-chunk kind payload)

@@ -1,33 +1,26 @@
--- What a seek finds among the records of a finished recording. Assumes nothing.
+-- What a seek finds among the records of chunks: the first one that the machine goes to, with its stamp. Assumes nothing.
 use mathlib.Core.Path.{_≡_, refl, ap}
 use mathlib.Core.Bool.{Bool, true, false, cond, _&&_}
 use mathlib.Core.List.{List, [], _∷_}
 use mathlib.Core.Option.{none, some}
-use Prim.Native.Nat.{ℕ, zero, suc, _+_, _*_, _≤_, _<_, suc-le-suc}
+use Prim.Native.Nat.{ℕ, zero, suc, _≤_, _<_, suc-le-suc}
 use native.Mathlib.Nat.{zero-lt-suc}
 use native.Mathlib.Omega.{arith}
-use borrow.Author.Tests.{lt-ltb}
 use lib.Dec.{eqb}
 use lib.IntN.{ℤ, pos}
-use lib.ListN.{length, getElem?, length-append}
+use lib.ListN.{length, getElem?}
 use lib.Signed.{leZ}
 use Rattle.fields.proofs.Impossible.{impossible}
-use Rattle.error.specs.Answer.{accepted}
-use Rattle.fields.specs.Le.{Bytes}
-use Rattle.fields.proofs.Laws.{bytes-right}
 use Rattle.demuxer.specs.Packet.{Shown}
-use Rattle.demuxer.specs.Position.{countLimit, InRange}
 use Rattle.demuxer.specs.declared.position.Position.{Position}
 use Rattle.walk.specs.declared.Kind.{Kind}
 use Rattle.walk.specs.declared.Kind.the-variants.{Frame, Sound}
-use Rattle.walk.specs.Chunks.{Chunk, chunkOf, chunkBytes, chunksBytes}
-use Rattle.chunk_index.specs.Entry.{entryLen, entry}
-use Rattle.table.specs.Table.{askEach, goodEntry}
-use Rattle.seek.specs.Seek.{stampOf, reaches, find, beyond, pastLast}
-use Rattle.walk.proofs.Chunked.{length-chunk}
+use Rattle.walk.specs.Chunks.{Chunk, chunkOf}
+use Rattle.chunk_index.specs.Entry.{entry}
+use Rattle.seek.specs.Seek.{stampOf, reaches, find}
 use Rattle.recording.specs.Drain.{drainFrom}
 use Rattle.recording.specs.Machine.{first}
-use Rattle.recording.proofs.Positions.{passed, shownAt, positionAt, drainAt, drain-cons, stepped, bytes-payload}
+use Rattle.recording.proofs.Positions.{passed, shownAt, positionAt, drainAt, drain-cons}
 use Rattle.recording.proofs.Tables.{recordsOf}
 
 -- the machine's test of a packet
@@ -106,40 +99,3 @@ finds stream request p (chunkOf kind payload ∷ cs) h = go _ refl (finds stream
           stamp-is = f .stamp-is;
         })
     go false t (miss a b) = miss (rw (test-same stream request p kind payload h, t) a) (rw (first-cons stream request p kind payload cs, t) (ap suc b))
-
--- ---- every record is good
-
-good-record : (p : Position) (kind : Kind) → p .samples .0 < countLimit → goodEntry (entry kind p) ≡ true
-good-record p Frame h = lt-ltb (p .samples .0) countLimit h
-good-record p Sound h = lt-ltb (p .samples .0) countLimit h
-
-pub all-good : (place : ℕ) (p : Position) (cs : List Chunk) → Bytes (chunksBytes cs)
-    → p .samples .0 + 268435456 * length (chunksBytes cs) < countLimit → askEach goodEntry 43 place (recordsOf p cs) ≡ accepted tt
-unfolding askEach recordsOf chunksBytes
-all-good place p [] y h = refl
-all-good place p (chunkOf kind payload ∷ cs) y h =
-    let l = length-append (chunkBytes (chunkOf kind payload)) (chunksBytes cs) in
-    let m = length-chunk kind payload in
-    let t = stepped p kind payload (bytes-payload kind payload _ y) in
-    rw (good-record p kind (omega arith))
-    (all-good (place + entryLen) (passed p kind payload) cs (bytes-right (chunkBytes (chunkOf kind payload)) _ y) (omega arith))
-
--- ---- the position that a seek to the end leaves is in range
-
-beyond-range : (p : Position) (kind : Kind) → p .cursor + 8 ≤ countLimit → p .frames .0 < countLimit → p .samples .0 ≤ countLimit → p .blocks .0 < countLimit
-    → InRange (beyond (entry kind p))
-beyond-range p Frame a b c d = record { cursor-in = a; frames-in = omega arith; samples-in = c; blocks-in = omega arith }
-beyond-range p Sound a b c d = record { cursor-in = a; frames-in = omega arith; samples-in = c; blocks-in = omega arith }
-
-pub last-range : (q p : Position) (cs : List Chunk) → Bytes (chunksBytes cs) → InRange q
-    → p .cursor + length (chunksBytes cs) + 8 ≤ countLimit → 8 * p .frames .0 + length (chunksBytes cs) < countLimit
-    → p .samples .0 + 268435456 * length (chunksBytes cs) ≤ countLimit → 8 * p .blocks .0 + length (chunksBytes cs) < countLimit
-    → InRange (pastLast q (recordsOf p cs))
-unfolding pastLast recordsOf chunksBytes
-last-range q p [] y r a b c d = r
-last-range q p (chunkOf kind payload ∷ cs) y r a b c d =
-    let l = length-append (chunkBytes (chunkOf kind payload)) (chunksBytes cs) in
-    let m = length-chunk kind payload in
-    let t = stepped p kind payload (bytes-payload kind payload _ y) in
-    last-range (beyond (entry kind p)) (passed p kind payload) cs (bytes-right (chunkBytes (chunkOf kind payload)) _ y)
-    (beyond-range p kind (omega arith) (omega arith) (omega arith) (omega arith)) (omega arith) (omega arith) (omega arith) (omega arith)

@@ -22,7 +22,6 @@ use Rattle.walk.specs.Chunks.{Chunk, chunkOf, walkOf}
 use Rattle.walk.specs.Walk.{Walk, fileWalk}
 use Rattle.walk.specs.declared.Kind.{Kind}
 use Rattle.walk.specs.declared.Kind.the-variants.{Frame, Sound}
-use Rattle.walk.specs.declared.Step.the-variants as step
 use Rattle.chunk_index.specs.Index.{recorded, tagsKnown, indexOf}
 use Rattle.chunk_index.specs.Sentences.{tagged, recordCounts}
 use Rattle.chunk_index.specs.Summary.{noneCounted, counted, countsFrom, summaryOf}

@@ -2,36 +2,34 @@
 use mathlib.Core.Path.{_≡_, refl, sym, ap, ap₂, _∙_}
 use mathlib.Core.Bool.{Bool, true, false, cond}
 use mathlib.Core.List.{List, [], _∷_, _++_, append-assoc, append-nil}
-use Prim.Native.Nat.{ℕ, _+_, _*_, _/_, _^_, _≤_, _<_, min}
+use Prim.Native.Nat.{ℕ, _+_, _*_, _/_, _^_, _<_, min}
 use native.Mathlib.Nat.{add-zero}
 use native.Mathlib.Omega.{arith}
 use borrow.Author.Tests.{le-leb}
 use lib.Dec.{leb}
 use lib.Seq.{take-at}
 use lib.ListN.{length, take, length-append}
-use Rattle.fields.specs.Capped.{u32Max}
 use Rattle.fields.proofs.Impossible.{impossible}
 use Rattle.prelude.specs.Layout.{preludeLen}
 use Rattle.chunk.specs.Chunk.{trailerBytes}
 use Rattle.error.specs.Answer.{Answer, accepted, refused, ask, andThen}
 use Rattle.fields.specs.File.{fileLimit}
-use Rattle.fields.specs.Le.{Bytes, put}
-use Rattle.fields.proofs.Laws.{bytes-right}
+use Rattle.fields.specs.Le.{put}
 use Rattle.demuxer.specs.Position.{start}
 use Rattle.demuxer.specs.declared.position.Position.{Position}
 use Rattle.walk.specs.Walk.{walk, past, fileWalk}
 use Rattle.walk.specs.declared.Kind.{Kind}
 use Rattle.walk.specs.declared.Kind.the-variants.{Frame, Sound}
-use Rattle.walk.specs.Chunks.{Chunk, chunkOf, chunkBytes, chunksBytes, walkOf}
+use Rattle.walk.specs.Chunks.{Chunk, chunkOf, chunksBytes, walkOf}
 use Rattle.chunk_index.specs.Entry.{entryLen, entry, entryBytes, tableBytes, entriesFrom, entriesOf}
 use Rattle.chunk_index.specs.Steps.{Small}
 use Rattle.chunk_index.specs.Index.{Built, builtFrom, buildOf, recorded, records, tagsKnown, indexOf}
 use Rattle.chunk_index.specs.declared.entry.ChunkIndexEntry.{ChunkIndexEntry}
-use Rattle.walk.proofs.Chunked.{length-chunk, tag-held, chunks-walked}
+use Rattle.walk.proofs.Chunked.{chunks-walked}
 use Rattle.chunk_index.proofs.Entries.{entry-back, length-entryBytes, length-table}
 use Rattle.recording.specs.Grammar.{Finished}
 use Rattle.recording.specs.Machine.{OwnIndex}
-use Rattle.recording.proofs.Positions.{passed, Bounded, stepped, bytes-payload}
+use Rattle.recording.proofs.Positions.{passed}
 
 -- the records of chunks from a position on
 unfoldable pub recordsOf : Position → List Chunk → List ChunkIndexEntry
@@ -98,25 +96,6 @@ pub table-back : (es : List ChunkIndexEntry) → AllFit es → entriesOf (tableB
 table-back es f =
     let n : length (tableBytes es) / entryLen ≡ length es = omega (arith, length-table es) in
     ap (λ (k : ℕ). entriesFrom k (tableBytes es) 0) n ∙ entries-back [] es f
-
--- every record of few enough bytes fits
-pub records-fit : (p : Position) (cs : List Chunk) → Bytes (chunksBytes cs)
-    → p .cursor + length (chunksBytes cs) ≤ u32Max → 8 * p .frames .0 + length (chunksBytes cs) ≤ 8 * u32Max
-    → 8 * p .blocks .0 + length (chunksBytes cs) ≤ 8 * u32Max → p .samples .0 + 268435456 * length (chunksBytes cs) < 18446744073709551616
-    → AllFit (recordsOf p cs)
-unfolding recordsOf chunksBytes
-records-fit p [] y a b c d = tt
-records-fit p (chunkOf kind payload ∷ cs) y a b c d =
-    let l = length-append (chunkBytes (chunkOf kind payload)) (chunksBytes cs) in
-    let m = length-chunk kind payload in
-    let t : Bounded p (passed p kind payload) (8 + length payload) = stepped p kind payload (bytes-payload kind payload _ y) in (
-      record {
-        tag-fits = tag-held kind;
-        small = record { cursor-small = omega arith; frames-small = omega arith; blocks-small = omega arith };
-        samples-fit = omega arith;
-      },
-      records-fit (passed p kind payload) cs (bytes-right (chunkBytes (chunkOf kind payload)) _ y) (omega arith) (omega arith) (omega arith) (omega arith),
-    )
 
 -- ---- what `build_chunk_index` writes is the file's own index
 

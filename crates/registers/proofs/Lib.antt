@@ -2,5 +2,5 @@ pub mod Blocks
 pub mod Performs
 pub mod Bits
 pub mod Sentences
-pub mod Marks
+pub mod Stamps
 pub mod Lists

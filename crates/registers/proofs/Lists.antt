@@ -1,9 +1,9 @@
--- Every list of register steps agrees with the plain machine that is fed its commands: a command is one of four (`command-cases`), and what a
--- read or a seek shows of the machine's answer is by the one-step lemma of the claim about reads and seeks (`turn`). Assumes nothing.
+-- Every list of register steps agrees with the machine of the file that is fed its commands: a command is one of four (`command-cases`), and what a
+-- read or a seek shows of the machine's answer is by the one-step lemma of the claim about reads and seeks (`own-turn`). Assumes nothing.
 use mathlib.Core.Path.{_≡_, refl, sym, ap, subst, _∙_}
-use Prim.Native.Nat.{ℕ, _+_, _^_, _≤_, _<_}
+use Prim.Native.Nat.{ℕ, _≤_}
 use mathlib.Core.Bool.{Bool, true, false, cond}
-use mathlib.Core.List.{List, [], _∷_, _++_, append-nil}
+use mathlib.Core.List.{List, [], _∷_, append-nil}
 use mathlib.Core.Option.{Option, none, some}
 use native.Mathlib.Omega.{arith}
 use lib.Dec.{leb, eqb}
@@ -12,26 +12,28 @@ use lib.ListN.{length, getElem?}
 use Rattle.error.specs.Answer.{Answer, accepted, refused, ask}
 use Rattle.error.specs.declared.Refusal.{Refusal}
 use Rattle.fields.specs.Le.{le, leBytes, Bytes}
-use Rattle.fields.proofs.Impossible.{impossible}
 use Rattle.fields.proofs.Laws.{le-append-right, le-leBytes}
 use Rattle.demuxer.specs.Packet.{Shown}
 use Rattle.demuxer.specs.Position.{countLimit}
-use Rattle.demuxer.specs.Read.{ReadAnswer, packet, End, fresh, readOf}
+use Rattle.demuxer.specs.Read.{ReadAnswer, packet, End, fresh}
 use Rattle.demuxer.specs.declared.walker.Walker.{Walker}
-use Rattle.seek.specs.Seek.{seekOf}
-use Rattle.walk.specs.Chunks.{Chunk}
+use Rattle.walk.specs.Chunks.{Chunk, walkOf}
+use Rattle.walk.specs.Walk.{Walk, fileWalk}
 use Rattle.recording.specs.Drain.{drain}
 use Rattle.recording.specs.Grammar.{Finished}
 use Rattle.recording.specs.Lists.{CallsRan, no-call, one-more}
 use Rattle.recording.specs.Machine.{Call, read, seek, MachineAnswer, gives, ends, goes, goesToEnd, refuses, MachineStep, onRead, onSeek, first, machineStep}
-use Rattle.recording.specs.Machine.{machineAfter, CallAnswer, readAnswer, seekAnswer, CallOutcome, call, OwnIndex}
+use Rattle.recording.specs.Machine.{CallAnswer, readAnswer, seekAnswer, CallOutcome, call, OwnIndex}
 use Rattle.recording.specs.Machine as machine
-use Rattle.recording.proofs.Lists.{Invariant, on-the-way, at-the-end, Turn, begins, stand, none-past, inv-range, left-of, turn}
-use Rattle.registers.specs.Registers.{byte, requestIn, commanded, commandIn, doneOf, perform, packetOf, refusalNumber, statusOf, frontAfter}
+use Rattle.recording.specs.Indexed.{wholesOf, recordedOf, fileStep, fileSays, fileAfter, Marks, unmarked, markedBy, marksAfter}
+use Rattle.recording.proofs.Indexed.{Invariant, Turn, begins, marked, own-turn, own-range, own-leaves}
+use Rattle.recording.proofs.Lists.{plain-step, left-finished}
+use Rattle.recording.proofs.Tables.{finished-walk}
+use Rattle.registers.specs.Registers.{byte, requestIn, commanded, commandIn, doneOf, packetOf, refusalNumber, statusOf, frontAfter}
 use Rattle.registers.specs.Registers.{requestAfter, blockAfter, Performed, Stepping, stepped, steppedFrom, stepOf}
 use Rattle.registers.specs.Lists.{unlessRefused, fed, also, fedBy, machineSaid, machinePlace, StepAnswer, shownBy, Accepts, Agrees, AllAgree}
-use Rattle.registers.specs.Lists.{StepsAgreed, shown, after, RegisterSteps, SteppingAs, EveryStep}
-use Rattle.registers.proofs.Marks.{end-marked, packet-stamp, seek-stamp, stamp-in}
+use Rattle.registers.specs.Lists.{StepsAgreed, StepsAlong, shown, after, RegisterSteps, IndexedSteps, SteppingAs, EveryStep}
+use Rattle.registers.proofs.Stamps.{packet-stamp, seek-stamp, stamp-in}
 use Rattle.registers.proofs.Sentences.{bits-of}
 
 -- ---- a command is refused, or it is one of four
@@ -107,97 +109,136 @@ read-same e = cc
 seek-same : {a b : Answer ℕ} → seekAnswer a ≡ seekAnswer b → a ≡ b
 seek-same e = cc
 
-module _ (file : List ℕ) (cs : List Chunk) (all : Bytes file) (fin : Finished file cs) (table : List ℕ) (own : OwnIndex file table) where
+module _ (file : List ℕ) (all : Bytes file) (table : List ℕ) (own : OwnIndex file table) where
+  abbrev v : Walk
+  v = fileWalk file
+
   -- ---- one step
 
-  read-marked : (w : Walker) (k : ℕ) → Invariant cs w k → (o : Option Shown) → machine.Agrees (onRead k o .says) (readAnswer (readOf file w .answer))
-      → Marked (onRead k o .says) (record { answer = readAnswer (readOf file w .answer); walker = readOf file w .walker })
-  unfolding Marked
-  read-marked w k i (some p) e = packet-stamp file w (inv-range file cs all fin w k i) (read-same e)
-  read-marked w k i none e = end-marked file w (read-same e)
+  read-marked : (w : Walker) (k : ℕ) (m : Marks) → Invariant v w k m → (x : Option Shown) → Turn v m (call file table w read) (onRead k x)
+      → Marked (onRead k x .says) (call file table w read)
+  unfolding Marked call
+  read-marked w k m i (some p) t = packet-stamp file w (own-range file all table own w k m i) (read-same (t .agrees))
+  read-marked w k m i none t = marked (t .keeps) .end-is
 
-  seek-marked : (w : Walker) (stream : ℕ) (z : ℤ) (k : ℕ) (o : Option Shown) → getElem? (drain cs) k ≡ o
-      → machine.Agrees (onSeek k o .says) (seekAnswer (seekOf table w stream z .answer)) → Invariant cs (seekOf table w stream z .walker) (onSeek k o .place)
-      → Marked (onSeek k o .says) (record { answer = seekAnswer (seekOf table w stream z .answer); walker = seekOf table w stream z .walker })
-  unfolding Marked
-  seek-marked w stream z k (some p) g e i = (
-    rw (seek-stamp table w stream z (seek-same e)) (stamp-in stream _ (inv-range file cs all fin _ k i)),
-    going i,
+  seek-marked : (w : Walker) (m : Marks) (stream : ℕ) (z : ℤ) (k : ℕ) (x : Option Shown) → Turn v m (call file table w (seek stream z)) (onSeek k x)
+      → Marked (onSeek k x .says) (call file table w (seek stream z))
+  unfolding Marked call
+  seek-marked w m stream z k (some p) t = (
+    rw (seek-stamp table w stream z (seek-same (t .agrees))) (stamp-in stream _ (own-range file all table own _ k _ (t .keeps))),
+    marked (t .keeps) .end-is,
   )
-    where
-      going : Invariant cs (seekOf table w stream z .walker) k → seekOf table w stream z .walker .end ≡ false
-      going (on-the-way j) = j .going
-      going (at-the-end j) = let e : none ≡ some p = sym (none-past cs k (omega (arith, j .last))) ∙ g in impossible cc
-  seek-marked w stream z k none g e i = tt
+  seek-marked w m stream z k none t = tt
+
+  -- the marks after what the machine is fed
+  abbrev marksFed : ℕ → Marks → Option Call → Marks
+  marksFed k m none = m
+  marksFed k m (some c) = markedBy m (fileStep v k c .says)
 
   -- what a step shows agrees, and the walker that it leaves keeps the invariant
-  record Turned (k : ℕ) (d : Answer (Option Call)) (s : Stepping) : Type 0 where
-    agrees : Agrees (machineSaid (drain cs) k (unlessRefused d)) (shownBy s)
-    keeps : Invariant cs (s .walker) (machinePlace (drain cs) k (unlessRefused d))
+  record Turned (k : ℕ) (m : Marks) (d : Answer (Option Call)) (s : Stepping) : Type 0 where
+    agrees : Agrees (machineSaid (fileStep v) k (unlessRefused d)) (shownBy s)
+    keeps : Invariant v (s .walker) (machinePlace (fileStep v) k (unlessRefused d)) (marksFed k m (unlessRefused d))
 
-  read-turn : (w : Walker) (k : ℕ) (block : List ℕ) → Invariant cs w k
-      → Turned k (accepted (some read)) (steppedFrom file table w block (accepted (some read)))
-  unfolding call machineStep
-  read-turn w k block i =
-      let t : Turn cs (call file table w read) (machineStep (drain cs) k read) = turn file cs all fin table own w k read i in
+  -- of a call whose machine's step is known
+  by-turn : (w : Walker) (k : ℕ) (m : Marks) (block : List ℕ) → Invariant v w k m → (c : Call) (n : MachineStep) → fileStep v k c ≡ n
+      → (Turn v m (call file table w c) n → Marked (n .says) (call file table w c))
+      → Turned k m (accepted (some c)) (steppedFrom file table w block (accepted (some c)))
+  by-turn w k m block i c n e marks =
+      let t = own-turn file all table own w k m c i in
+      let u : Turn v m (call file table w c) n = subst (Turn v m (call file table w c)) e t in
       record {
-        agrees = agreed block _ (call file table w read) (t .agrees) (read-marked w k i (getElem? (drain cs) k) (t .agrees));
+        agrees =
+            subst (λ (x : MachineStep). Agrees (some (x .says)) (shownBy (stepped block (made (call file table w c))))) (sym e)
+            (agreed block (n .says) (call file table w c) (u .agrees) (marks u));
         keeps = t .keeps;
       }
 
-  seek-turn : (w : Walker) (k : ℕ) (block : List ℕ) → Invariant cs w k → (stream : ℕ) → leb stream 1 ≡ true → (z : ℤ)
-      → Turned k (accepted (some (seek stream z))) (steppedFrom file table w block (accepted (some (seek stream z))))
-  unfolding call machineStep
-  seek-turn w k block i stream h z =
-      let to : ℕ = first stream z (drain cs) in
-      let m : machineStep (drain cs) k (seek stream z) ≡ onSeek to (getElem? (drain cs) to) = rw h in
-      let t : Turn cs (call file table w (seek stream z)) (onSeek to (getElem? (drain cs) to)) =
-      subst (λ (n : MachineStep). Turn cs (call file table w (seek stream z)) n) m (turn file cs all fin table own w k (seek stream z) i) in
-      record {
-        agrees =
-            subst (λ (n : MachineStep). Agrees (some (n .says)) (shownBy (stepped block (made (call file table w (seek stream z)))))) (sym m)
-            (agreed block _ (call file table w (seek stream z)) (t .agrees)
-            (seek-marked w stream z to (getElem? (drain cs) to) refl (t .agrees) (t .keeps)));
-        keeps = subst (λ (n : MachineStep). Invariant cs (call file table w (seek stream z) .walker) (n .place)) (sym m) (t .keeps);
-      }
+  read-turn : (w : Walker) (k : ℕ) (m : Marks) (block : List ℕ) → Invariant v w k m
+      → Turned k m (accepted (some read)) (steppedFrom file table w block (accepted (some read)))
+  unfolding fileStep machineStep
+  read-turn w k m block i = by-turn w k m block i read _ refl (read-marked w k m i (getElem? (drain (wholesOf v)) k))
 
-  step-turn : (w : Walker) (k : ℕ) (block : List ℕ) → Invariant cs w k → Turned k (commandIn block) (stepOf file table w block)
+  seek-turn : (w : Walker) (k : ℕ) (m : Marks) (block : List ℕ) → Invariant v w k m → (stream : ℕ) → leb stream 1 ≡ true → (z : ℤ)
+      → Turned k m (accepted (some (seek stream z))) (steppedFrom file table w block (accepted (some (seek stream z))))
+  unfolding fileStep machineStep
+  seek-turn w k m block i stream h z =
+      let to : ℕ = first stream z (drain (recordedOf v)) in
+      by-turn w k m block i (seek stream z) (onSeek to (getElem? (drain (recordedOf v)) to)) (rw h)
+      (seek-marked w m stream z to (getElem? (drain (recordedOf v)) to))
+
+  step-turn : (w : Walker) (k : ℕ) (m : Marks) (block : List ℕ) → Invariant v w k m → Turned k m (commandIn block) (stepOf file table w block)
   unfolding stepOf
-  step-turn w k block i =
-      command-cases (λ (d : Answer (Option Call)). Turned k d (steppedFrom file table w block d)) (λ r. record { agrees = refl; keeps = i })
-      (record { agrees = refl; keeps = i }) (read-turn w k block i) (seek-turn w k block i 0 refl) (seek-turn w k block i 1 refl) block
+  step-turn w k m block i =
+      command-cases (λ (d : Answer (Option Call)). Turned k m d (steppedFrom file table w block d)) (λ r. record { agrees = refl; keeps = i })
+      (record { agrees = refl; keeps = i }) (read-turn w k m block i) (seek-turn w k m block i 0 refl) (seek-turn w k m block i 1 refl) block
 
   -- ---- a list of steps
 
-  place-after : (k : ℕ) (c : Option Call) (calls : List Call)
-      → machineAfter (drain cs) k (also c calls) ≡ machineAfter (drain cs) (machinePlace (drain cs) k c) calls
-  unfolding machineAfter
+  place-after : (k : ℕ) (c : Option Call) (calls : List Call) → fileAfter v k (also c calls) ≡ fileAfter v (machinePlace (fileStep v) k c) calls
+  unfolding fileAfter
   place-after k none calls = refl
   place-after k (some c) calls = refl
 
-  pub record Run (w : Walker) (k : ℕ) (blocks : List (List ℕ)) : Type 0 where
-    pub agree : AllAgree (drain cs) k blocks (shown file table w blocks)
-    pub holds : Invariant cs (after file table w blocks) (machineAfter (drain cs) k (fedBy blocks))
+  marks-after : (k : ℕ) (m : Marks) (c : Option Call) (calls : List Call)
+      → marksAfter m (fileSays v k (also c calls)) ≡ marksAfter (marksFed k m c) (fileSays v (machinePlace (fileStep v) k c) calls)
+  unfolding fileSays marksAfter
+  marks-after k m none calls = refl
+  marks-after k m (some c) calls = refl
 
-  run : (w : Walker) (k : ℕ) (blocks : List (List ℕ)) → Invariant cs w k → Run w k blocks
+  pub record Run (w : Walker) (k : ℕ) (m : Marks) (blocks : List (List ℕ)) : Type 0 where
+    pub agree : AllAgree (fileStep v) k blocks (shown file table w blocks)
+    pub holds : Invariant v (after file table w blocks) (fileAfter v k (fedBy blocks)) (marksAfter m (fileSays v k (fedBy blocks)))
+
+  run : (w : Walker) (k : ℕ) (m : Marks) (blocks : List (List ℕ)) → Invariant v w k m → Run w k m blocks
   unfolding shown after fedBy
-  run w k [] i = record { agree = tt; holds = unfold machineAfter in i }
-  run w k (block ∷ blocks) i =
-      let t = step-turn w k block i in
-      let r = run (stepOf file table w block .walker) (machinePlace (drain cs) k (fed block)) blocks (t .keeps) in
-      record { agree = (t .agrees, r .agree); holds = rw (place-after k (fed block) (fedBy blocks)) (r .holds) }
-
-  pub whole : (blocks : List (List ℕ)) → StepsAgreed file cs blocks (after file table fresh blocks) (shown file table fresh blocks)
-  whole blocks =
-      let r = run fresh 0 blocks (begins cs) in
+  run w k m [] i = record { agree = tt; holds = unfold fileAfter fileSays marksAfter in i }
+  run w k m (block ∷ blocks) i =
+      let t = step-turn w k m block i in
+      let r = run (stepOf file table w block .walker) (machinePlace (fileStep v) k (fed block)) (marksFed k m (fed block)) blocks (t .keeps) in
       record {
-        agree = r .agree;
-        left = left-of file cs all fin _ _ (r .holds);
-        stands = λ h. stand cs _ _ (r .holds) h;
+        agree = (t .agrees, r .agree);
+        holds = rw (place-after k (fed block) (fedBy blocks), marks-after k m (fed block) (fedBy blocks)) (r .holds);
       }
 
+  pub whole : (blocks : List (List ℕ)) → StepsAlong file v blocks (after file table fresh blocks) (shown file table fresh blocks)
+  whole blocks =
+      let r = run fresh 0 unmarked blocks (begins v) in
+      record { agree = r .agree; leaves = own-leaves file all table own (fedBy blocks) _ (r .holds) }
+
+pub indexed-steps : IndexedSteps
+indexed-steps file all table own blocks = whole file all table own blocks
+
+-- ---- a finished recording
+
+-- steps that are the same say the same
+same-agree : (f g : ℕ → Call → MachineStep) → ((k : ℕ) (c : Call) → f k c ≡ g k c) → (k : ℕ) (blocks : List (List ℕ)) (said : List StepAnswer)
+    → AllAgree f k blocks said → AllAgree g k blocks said
+same-agree f g e k [] [] a = a
+same-agree f g e k [] (s ∷ said) a = a
+same-agree f g e k (block ∷ blocks) [] a = a
+same-agree f g e k (block ∷ blocks) (s ∷ said) a = on (fed block) (a .0) (same-agree f g e _ blocks said (a .1))
+  where
+    on : (c : Option Call) → Agrees (machineSaid f k c) s → AllAgree g (machinePlace f k c) blocks said
+        → Agrees (machineSaid g k c) s × AllAgree g (machinePlace g k c) blocks said
+    on none x y = (x, y)
+    on (some c) x y =
+        (subst (λ (n : MachineStep). Agrees (some (n .says)) s) (e k c) x, subst (λ (n : MachineStep). AllAgree g (n .place) blocks said) (e k c) y)
+
+-- what is said of every file is, of this one, what is said by its chunks
+pub steps-finished : (file : List ℕ) (cs : List Chunk) → Finished file cs → (blocks : List (List ℕ)) (w : Walker) (said : List StepAnswer)
+    → StepsAlong file (fileWalk file) blocks w said → StepsAgreed file cs blocks w said
+steps-finished file cs fin blocks w said a =
+    let b : StepsAlong file (walkOf cs 0) blocks w said = subst (λ (v : Walk). StepsAlong file v blocks w said) (finished-walk file cs fin) a in
+    let l = left-finished file cs (b .leaves) in
+    record {
+      agree = same-agree (fileStep (walkOf cs 0)) (machineStep (drain cs)) (plain-step cs 0) 0 blocks said (b .agree);
+      left = l .0;
+      stands = l .1;
+    }
+
 pub register-steps : RegisterSteps
-register-steps file cs all fin table own blocks = whole file cs all fin table own blocks
+register-steps file cs all fin table own blocks = steps-finished file cs fin blocks _ _ (indexed-steps file all table own blocks)
 
 -- ---- over any state
 
@@ -213,6 +254,12 @@ module _ {S : Type 0} (Stands : S → Walker → Type 0) (Step : S → List ℕ 
       ((λ j. t .0 j ∷ r .0 j), r .1)
 
 pub every-step : EveryStep
-every-step S Stands Step file cs all fin table own stepping s blocks said last i ran =
-    let f = follows Stands Step file table stepping _ i ran in
-    (_, (f .1, rw (f .0) (register-steps file cs all fin table own blocks)))
+every-step =
+    record {
+      finished = λ Stands Step file cs all fin table own stepping s blocks said last i ran.
+          let f = follows Stands Step file table stepping _ i ran in
+          (_, (f .1, rw (f .0) (register-steps file cs all fin table own blocks)));
+      indexed = λ Stands Step file all table own stepping s blocks said last i ran.
+          let f = follows Stands Step file table stepping _ i ran in
+          (_, (f .1, rw (f .0) (indexed-steps file all table own blocks)));
+    }

@@ -1,59 +1,20 @@
--- What the registers show of a read and of a seek: End is marked in the walker, and a stamp is one that 64 bits hold. Assumes nothing.
+-- The stamps that the registers show of a read and of a seek: 64 bits hold them. Assumes nothing.
 use mathlib.Core.Path.{_≡_, refl, sym, ap, _∙_}
-use Prim.Native.Nat.{ℕ, _+_, _≤_}
+use Prim.Native.Nat.{ℕ, _≤_}
 use mathlib.Core.Bool.{Bool, true, false, cond}
 use mathlib.Core.List.{List}
-use lib.Dec.{leb, eqb}
+use lib.Dec.{eqb}
 use lib.IntN.{ℤ}
-use lib.ListN.{length}
 use Rattle.error.specs.Answer.{accepted}
-use Rattle.fields.specs.File.{withinLimit}
-use Rattle.fields.proofs.Impossible.{impossible}
-use Rattle.demuxer.specs.Head.{headAt}
 use Rattle.demuxer.specs.Packet.{Shown}
-use Rattle.demuxer.specs.Position.{countLimit, inRange, InRange}
-use Rattle.demuxer.specs.Read.{ReadAnswer, packet, End, Reading, refuse, cutOff, readFrame, readSound, readHead, readChunk, readOf}
+use Rattle.demuxer.specs.Position.{countLimit, InRange}
+use Rattle.demuxer.specs.Read.{ReadAnswer, packet, End, Reading, readOf}
 use Rattle.demuxer.specs.Read as read-answer
-use Rattle.demuxer.specs.declared.head.Head.{Head}
-use Rattle.demuxer.specs.declared.head.Head.the-variants as head
 use Rattle.demuxer.specs.declared.position.Position.{Position}
 use Rattle.demuxer.specs.declared.walker.Walker.{Walker}
 use Rattle.demuxer.proofs.Readings.{read-cases}
 use Rattle.seek.specs.Seek.{stampOf, seekOf}
 use Rattle.seek.proofs.Sentences.{seek-sentences}
-
--- ---- End
-
-module _ (file : List ℕ) (w : Walker) where
-  -- where End is answered, the walker has ended
-  abbrev Ended : Reading → Type 0
-  Ended q = q .answer ≡ End → q .walker .end ≡ true
-
-  whole : (s : Shown) (v : Walker) (b : Bool)
-      → Ended (cond b (record { answer = packet s; walker = v }) (record { answer = End; walker = cutOff w }))
-  whole s v true h = impossible cc
-  whole s v false h = refl
-
-  at-head : (x : Head) → Ended (readHead file w x)
-  unfolding readFrame readSound
-  at-head head.Short h = refl
-  at-head head.Trailer h = refl
-  at-head head.Unknown h = impossible cc
-  at-head (head.Video size) h = whole _ _ (leb (w .position .cursor + 8 + size) (length file)) h
-  at-head (head.Audio size) h = whole _ _ (leb (w .position .cursor + 8 + size) (length file)) h
-
-  pub end-marked : readOf file w .answer ≡ End → readOf file w .walker .end ≡ true
-  unfolding readOf readChunk
-  end-marked = go (withinLimit file) (inRange (w .position)) (w .end) refl
-    where
-      go : (a b e : Bool) → w .end ≡ e
-          → Ended (cond a (cond b (cond e (record { answer = End; walker = w }) (readChunk file w)) (refuse 32 0 w)) (refuse 10 0 w))
-      go false b e q h = impossible cc
-      go true false e q h = impossible cc
-      go true true true q h = q
-      go true true false q h = at-head (headAt file (w .position .cursor)) h
-
--- ---- stamps
 
 StampIn : ReadAnswer → Type 0
 StampIn (packet p) = p .stamp ≤ countLimit

@@ -12,10 +12,13 @@ use Rattle.demuxer.specs.Packet.{Shown}
 use Rattle.demuxer.specs.Read.{fresh}
 use Rattle.demuxer.specs.declared.walker.Walker.{Walker}
 use Rattle.walk.specs.Chunks.{Chunk}
+use Rattle.walk.specs.Walk.{Walk, fileWalk}
 use Rattle.recording.specs.Drain.{drain}
 use Rattle.recording.specs.Grammar.{Finished}
 use Rattle.recording.specs.Lists.{CallsRan}
-use Rattle.recording.specs.Machine.{Call, MachineAnswer, gives, ends, goes, goesToEnd, refuses, machineStep, machineAfter, PacketsLeft, AtChunk, OwnIndex}
+use Rattle.recording.specs.Machine.{Call, MachineAnswer, gives, ends, goes, goesToEnd, refuses, MachineStep, machineStep, machineAfter, PacketsLeft}
+use Rattle.recording.specs.Machine.{AtChunk, OwnIndex}
+use Rattle.recording.specs.Indexed.{fileStep, LeftAlong}
 use Rattle.registers.specs.Registers.{byte, commandIn, Stepping, stepOf}
 use Rattle.registers.specs.Sentences.{bit}
 
@@ -38,14 +41,14 @@ unfoldable pub fedBy : List (List ℕ) → List Call
 fedBy [] = []
 fedBy (block ∷ blocks) = also (fed block) (fedBy blocks)
 
--- what the machine says of what it is fed, and where it then stands
-abbrev pub machineSaid : List Shown → ℕ → Option Call → Option MachineAnswer
-machineSaid ps k none = none
-machineSaid ps k (some c) = some (machineStep ps k c .says)
+-- what a machine of these steps says of what it is fed, and where it then stands
+abbrev pub machineSaid : (ℕ → Call → MachineStep) → ℕ → Option Call → Option MachineAnswer
+machineSaid step k none = none
+machineSaid step k (some c) = some (step k c .says)
 
-abbrev pub machinePlace : List Shown → ℕ → Option Call → ℕ
-machinePlace ps k none = k
-machinePlace ps k (some c) = machineStep ps k c .place
+abbrev pub machinePlace : (ℕ → Call → MachineStep) → ℕ → Option Call → ℕ
+machinePlace step k none = k
+machinePlace step k (some c) = step k c .place
 
 -- ---- what a step shows
 
@@ -78,18 +81,23 @@ Agrees (some goesToEnd) s = Accepts s none
 Agrees (some refuses) s = ⊥
 
 -- each step of a list, from position k of the machine
-abbrev pub AllAgree : List Shown → ℕ → List (List ℕ) → List StepAnswer → Type 0
-AllAgree ps k [] [] = Unit
-AllAgree ps k [] (s ∷ said) = ⊥
-AllAgree ps k (block ∷ blocks) [] = ⊥
-AllAgree ps k (block ∷ blocks) (s ∷ said) =
-    Agrees (machineSaid ps k (fed block)) s × AllAgree ps (machinePlace ps k (fed block)) blocks said
+abbrev pub AllAgree : (ℕ → Call → MachineStep) → ℕ → List (List ℕ) → List StepAnswer → Type 0
+AllAgree step k [] [] = Unit
+AllAgree step k [] (s ∷ said) = ⊥
+AllAgree step k (block ∷ blocks) [] = ⊥
+AllAgree step k (block ∷ blocks) (s ∷ said) =
+    Agrees (machineSaid step k (fed block)) s × AllAgree step (machinePlace step k (fed block)) blocks said
 
 -- all that is claimed of one list of steps: what each showed, and of the walker that the last one left "the position" and the packets left
 pub record StepsAgreed (file : List ℕ) (cs : List Chunk) (blocks : List (List ℕ)) (w : Walker) (said : List StepAnswer) : Type 0 where
-  pub agree : AllAgree (drain cs) 0 blocks said
+  pub agree : AllAgree (machineStep (drain cs)) 0 blocks said
   pub left : PacketsLeft file w (drop (machineAfter (drain cs) 0 (fedBy blocks)) (drain cs))
   pub stands : machineAfter (drain cs) 0 (fedBy blocks) < length cs → AtChunk cs (machineAfter (drain cs) 0 (fedBy blocks)) w
+
+-- the same of a file with this walk, be it finished or not, by its machine
+pub record StepsAlong (file : List ℕ) (v : Walk) (blocks : List (List ℕ)) (w : Walker) (said : List StepAnswer) : Type 0 where
+  pub agree : AllAgree (fileStep v) 0 blocks said
+  pub leaves : LeftAlong file v (fedBy blocks) w
 
 -- ---- lists of steps
 
@@ -109,17 +117,27 @@ RegisterSteps =
     (file : List ℕ) (cs : List Chunk) → Bytes file → Finished file cs → (table : List ℕ) → OwnIndex file table
     → (blocks : List (List ℕ)) → StepsAgreed file cs blocks (after file table fresh blocks) (shown file table fresh blocks)
 
+-- the same for every file whose index is accepted: cut at any byte, with bytes after its trailer, of any prelude
+abbrev pub IndexedSteps : Type 0
+IndexedSteps =
+    (file : List ℕ) → Bytes file → (table : List ℕ) → OwnIndex file table
+    → (blocks : List (List ℕ)) → StepsAlong file (fileWalk file) blocks (after file table fresh blocks) (shown file table fresh blocks)
+
 -- a step over any state that stands for a walker: it shows what 02's step does, and leaves a state that stands for its walker
 abbrev pub SteppingAs : {S : Type 0} → (S → Walker → Type 0) → (S → List ℕ → StepAnswer → S → Type 0) → List ℕ → List ℕ → Type 0
 SteppingAs {S} Stands Step file table =
     (s : S) (block : List ℕ) (answer : StepAnswer) (next : S) (w : Walker) → Stands s w → Step s block answer next
     → (answer ≡ shownBy (stepOf file table w block)) × Stands next (stepOf file table w block .walker)
 
--- the same claim of what such steps showed and left
-abbrev pub EveryStep : Type 1
-EveryStep =
-    (S : Type 0) (Stands : S → Walker → Type 0) (Step : S → List ℕ → StepAnswer → S → Type 0)
-    → (file : List ℕ) (cs : List Chunk) → Bytes file → Finished file cs → (table : List ℕ) → OwnIndex file table
-    → SteppingAs Stands Step file table
-    → (s : S) (blocks : List (List ℕ)) (said : List StepAnswer) (last : S) → Stands s fresh → CallsRan Step s blocks said last
-    → (w : Walker) × (Stands last w × StepsAgreed file cs blocks w said)
+-- the same claims of what such steps showed and left
+pub record EveryStep : Type 1 where
+  pub finished : {S : Type 0} (Stands : S → Walker → Type 0) (Step : S → List ℕ → StepAnswer → S → Type 0)
+      → (file : List ℕ) (cs : List Chunk) → Bytes file → Finished file cs → (table : List ℕ) → OwnIndex file table
+      → SteppingAs Stands Step file table
+      → (s : S) (blocks : List (List ℕ)) (said : List StepAnswer) (last : S) → Stands s fresh → CallsRan Step s blocks said last
+      → (w : Walker) × (Stands last w × StepsAgreed file cs blocks w said)
+  pub indexed : {S : Type 0} (Stands : S → Walker → Type 0) (Step : S → List ℕ → StepAnswer → S → Type 0)
+      → (file : List ℕ) → Bytes file → (table : List ℕ) → OwnIndex file table
+      → SteppingAs Stands Step file table
+      → (s : S) (blocks : List (List ℕ)) (said : List StepAnswer) (last : S) → Stands s fresh → CallsRan Step s blocks said last
+      → (w : Walker) × (Stands last w × StepsAlong file (fileWalk file) blocks w said)
