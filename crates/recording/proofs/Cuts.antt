@@ -175,14 +175,14 @@ module _ (file : List ℕ) (cs : List Chunk) (fin : Finished file cs) where
         )
 
     module _ (short : n < length file) where
-      cut-walk : CutWalk n preludeLen cs (fileWalk (take n file))
+      pub cut-walk : CutWalk n preludeLen cs (fileWalk (take n file))
       cut-walk = subst (λ (at : ℕ). CutWalk n at cs (walk (take n file) at)) (fin .whole) (cut-walked n file short (fin .prelude) cs (fin .lengths) (fin .is))
 
       -- the survivors are the packets of the whole chunks
-      survivors-are : survivors n cs ≡ drain (wholesOf (fileWalk (take n file)))
+      pub survivors-are : survivors n cs ≡ drain (wholesOf (fileWalk (take n file)))
       survivors-are = survive n cut-walk start
 
-      as-many : length (survivors n cs) ≡ length (wholesOf (fileWalk (take n file)))
+      pub as-many : length (survivors n cs) ≡ length (wholesOf (fileWalk (take n file)))
       as-many = ap length survivors-are ∙ length-drain start (wholesOf (fileWalk (take n file)))
 
       first-chunks : wholesOf (fileWalk (take n file)) ≡ take (length (survivors n cs)) cs
@@ -195,7 +195,7 @@ module _ (file : List ℕ) (cs : List Chunk) (fin : Finished file cs) where
           ∙ check-cut n cut-walk start (allPaired (take n file))
           ∙ ap (λ (l : List Chunk). refused (numbered 60 (preludeLen + length (chunksBytes l)))) first-chunks
 
-      reads : Bytes file → ReadWalk (take n file) start (fileWalk (take n file))
+      pub reads : Bytes file → ReadWalk (take n file) start (fileWalk (take n file))
       reads bytes = read-walk (take n file) (bytes-take n file bytes) fits (all-known n cut-walk preludeLen)
 
       drained : Bytes file → ReadsUntilEnd (take n file) fresh (survivors n cs) (endedAt cs (length (survivors n cs)) true NotMet)

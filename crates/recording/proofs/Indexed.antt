@@ -8,7 +8,7 @@ use mathlib.Core.Option.{Option, none, some}
 use Prim.Native.Nat.{ℕ, zero, suc, _+_, _-_, _%_, _≤_, _<_}
 use native.Mathlib.Nat.{le-of-suc-le-suc, not-suc-le-zero}
 use native.Mathlib.Omega.{arith}
-use borrow.Author.Tests.{eq-eqb, ne-eqb, leb-true}
+use borrow.Author.Tests.{eq-eqb, ne-eqb, le-leb, leb-true}
 use lib.Dec.{leb}
 use lib.IntN.{ℤ}
 use lib.ListN.{length, take, drop, getElem?}
@@ -35,7 +35,7 @@ use Rattle.chunk_index.specs.Entry.{entryLen, tableBytes, entriesOf}
 use Rattle.chunk_index.specs.Index.{records, tagsKnown, indexOf}
 use Rattle.chunk_index.specs.declared.entry.ChunkIndexEntry.{ChunkIndexEntry}
 use Rattle.table.specs.Table.{tableQuestions}
-use Rattle.seek.specs.Seek.{find, pastLast, landed, seekOf}
+use Rattle.seek.specs.Seek.{stampOf, find, pastLast, Seeking, landed, seekOf}
 use Rattle.seek.proofs.Seeks.{no-stream, all-pass, when-refused, when-accepted}
 use Rattle.chunk_index.proofs.Entries.{length-table}
 use Rattle.recording.specs.Drain.{drain}
@@ -191,6 +191,17 @@ none-past cs k h = getElem-none (drain cs) k (omega (arith, length-drain start c
 -- a read after the end changes no mark
 still-over : (m : Marks) → m .end ≡ true → m ≡ markedBy m ends
 still-over m over = λ j. record { end = over j; met = sym (ap (λ (end : Bool). not end || m .met) over) j }
+
+-- a seek that goes to record number k
+pub record Jumped (file : List ℕ) (v : Walk) (k stream : ℕ) (s : Seeking) : Type 0 where
+  pub answer : s .answer ≡ accepted (stampOf stream (positionAt start k (recordedOf v)))
+  pub position : s .walker .position ≡ positionAt start k (recordedOf v)
+  pub left : PacketsLeft file (s .walker) (drop k (drain (wholesOf v)))
+  pub stamp : (p : Shown) → getElem? (drain (recordedOf v)) k ≡ some p → p .stamp ≡ stampOf stream (positionAt start k (recordedOf v))
+
+sought-place : (k : ℕ) (x : Option Shown) → onSeek k x .place ≡ k
+sought-place k (some p) = refl
+sought-place k none = refl
 
 module _ (file : List ℕ) (fits : length file ≤ fileLimit) (v : Walk) (r : ReadWalk file start v) where
   pub in-walk : (w : Walker) (k : ℕ) (m : Marks) → Invariant v w k m → InRange (w .position)
@@ -399,6 +410,33 @@ module _ (file : List ℕ) (fits : length file ≤ fileLimit) (v : Walk) (r : Re
               });
         })
 
+    -- one that goes to a record: its stamp, where it stands and what is left
+    pub jump : (w : Walker) (k : ℕ) (m : Marks) → Invariant v w k m → (stream : ℕ) (request : ℤ) → leb stream 1 ≡ true
+        → first stream request (drain (recordedOf v)) < length (recordedOf v)
+        → Jumped file v (first stream request (drain (recordedOf v))) stream (seekOf table w stream request)
+    jump w k m i stream request s l = on (finds stream request start (recordedOf v) (leb-true stream 1 s))
+      where
+        on : Finds stream request start (recordedOf v)
+            → Jumped file v (first stream request (drain (recordedOf v))) stream (seekOf table w stream request)
+        on (hit f) =
+            let to : ℕ = first stream request (drain (recordedOf v)) in
+            let is = f .at-is ∙ ap (λ (n : ℕ). positionAt start n (recordedOf v)) (sym (f .first-is)) in
+            let lands = seek-lands w stream request s (in-walk w k m i) ∙ ap (landed (recordsOf start (recordedOf v)) w stream) (f .found) in
+            let t = land-turn w k m i stream request s (hit f) in
+            record {
+              answer = ap (λ (q : Seeking). q .answer) lands ∙ ap (λ (p : Position). accepted (stampOf stream p)) is;
+              position = ap (λ (q : Seeking). q .walker .position) lands ∙ is;
+              left =
+                  left-of _ to _
+                  (subst (λ (n : ℕ). Invariant v (seekOf table w stream request .walker) n (markedBy m (seekStep stream request .says)))
+                  (sought-place to (getElem? (drain (recordedOf v)) to)) (t .keeps));
+              stamp = λ p e.
+                  let same : some p ≡ some (f .shown) = sym e ∙ ap (getElem? (drain (recordedOf v))) (f .first-is) ∙ f .shown-is in
+                  let q : p ≡ f .shown = cc in
+                  ap (λ (x : Shown). x .stamp) q ∙ f .stamp-is ∙ ap (stampOf stream) is;
+            }
+        on (miss a b) = absurd (omega arith)
+
     -- ---- one call
 
     pub turn : (w : Walker) (k : ℕ) (m : Marks) (c : Call) → Invariant v w k m → Turn v m (call file table w c) (fileStep v k c)
@@ -470,3 +508,13 @@ module _ (file : List ℕ) (bytes : Bytes file) (table : List ℕ) (own : OwnInd
       → Invariant (fileWalk file) w (fileAfter (fileWalk file) 0 calls) (marksAfter unmarked (fileSays (fileWalk file) 0 calls))
       → LeftAlong file (fileWalk file) calls w
   own-leaves = leaves file (indexed file (own .indexed) .fits) (fileWalk file) own-reads
+
+  -- a seek after a list of calls
+  pub own-jump : (calls : List Call) (stream : ℕ) → stream ≤ 1 → (request : ℤ)
+      → let rs = recordedOf (fileWalk file) in
+      first stream request (drain rs) < length rs
+      → Jumped file (fileWalk file) (first stream request (drain rs)) stream (seekOf table (after file table fresh calls) stream request)
+  own-jump calls stream s request l =
+      let i = indexed file (own .indexed) in
+      let ran = run file (i .fits) (fileWalk file) own-reads table own-table fresh 0 unmarked calls (begins (fileWalk file)) in
+      jump file (i .fits) (fileWalk file) own-reads table own-table _ _ _ (ran .holds) stream request (le-leb stream 1 s) l

@@ -13,6 +13,7 @@ pub mod Writes
 pub mod Numbers
 pub mod Within
 pub mod Cuts
+pub mod CutJumps
 pub mod Runs
 pub mod ByValue
 pub mod Together

@@ -39,7 +39,7 @@ wholes-cut : (kind : Kind) (part : List ℕ) (missing : ℕ) → 0 < missing →
 unfolding wholesOf
 wholes-cut kind part missing m = rw (ne-eqb missing 0 (λ e. omega arith))
 
-recorded-cut : (P : List Chunk → Type 0) (kind : Kind) (part : List ℕ) (missing : ℕ) → P [] → P (chunkOf kind part ∷ [])
+pub recorded-cut : (P : List Chunk → Type 0) (kind : Kind) (part : List ℕ) (missing : ℕ) → P [] → P (chunkOf kind part ∷ [])
     → P (recordedOf (chunk kind part missing (stop ranOut)))
 unfolding recordedOf
 recorded-cut P kind part missing without with-one = on (recorded kind part missing)
@@ -49,7 +49,7 @@ recorded-cut P kind part missing without with-one = on (recorded kind part missi
     on false = without
 
 -- a whole one has
-recorded-on : (kind : Kind) (payload : List ℕ) (rest : Walk) → recordedOf (chunk kind payload 0 rest) ≡ chunkOf kind payload ∷ recordedOf rest
+pub recorded-on : (kind : Kind) (payload : List ℕ) (rest : Walk) → recordedOf (chunk kind payload 0 rest) ≡ chunkOf kind payload ∷ recordedOf rest
 unfolding recordedOf
 recorded-on kind payload rest = rw (recorded-whole kind payload)
 

@@ -45,7 +45,7 @@ same-stamp (suc zero) request p Frame payload h t = impossible cc
 same-stamp (suc zero) request p Sound payload h t = refl
 same-stamp (suc (suc n)) request p kind payload h t = absurd (omega arith)
 
-first-cons : (stream : ℕ) (request : ℤ) (p : Position) (kind : Kind) (payload : List ℕ) (cs : List Chunk)
+pub first-cons : (stream : ℕ) (request : ℤ) (p : Position) (kind : Kind) (payload : List ℕ) (cs : List Chunk)
     → first stream request (drainAt p (chunkOf kind payload ∷ cs))
     ≡ cond (meets stream request (shownAt p kind payload)) 0 (suc (first stream request (drainAt (passed p kind payload) cs)))
 unfolding first

@@ -7,6 +7,7 @@ pub mod Indexed
 pub mod Summary
 pub mod WriteLists
 pub mod Cut
+pub mod CutJumps
 pub mod Lists
 pub mod ByValue
 pub mod Together
