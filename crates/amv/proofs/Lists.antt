@@ -31,10 +31,17 @@ writing s c answer next w e (writes result m) = rw (← e) (m .answer, (m .write
 pub through-methods : ThroughMethods
 through-methods =
     record {
+      same-calls = λ file table calls said last ran.
+          let a = every-list .same-calls (Stands file) (DemuxerStep table) (now file) table (calling file table) _ calls said last (refl, refl) ran in
+          (a .0, a .1 .1);
       reads-and-seeks = λ file cs all fin table own calls said last ran.
           let a =
           every-list .reads-and-seeks (Stands file) (DemuxerStep table) (now file) cs all fin table own (calling file table) _
           calls said last (refl, refl) ran in
+          rw (a .1 .0 .1) (a .1 .1);
+      indexed = λ file all table own calls said last ran.
+          let a =
+          every-list .indexed (Stands file) (DemuxerStep table) (now file) all table own (calling file table) _ calls said last (refl, refl) ran in
           rw (a .1 .0 .1) (a .1 .1);
       cut = λ whole cs all fin n short file is table said last ran.
           let a =

@@ -319,10 +319,17 @@ through-words =
     record {
       fresh-walker = refl;
       fresh-writer = λ s. refl;
+      same-calls = λ file table calls said last ran.
+          let a = every-list .same-calls Stands (WalkerStep file table) file table (calling file table) _ calls said last (refl, refl) ran in
+          (a .0, spells last _ (a .1));
       reads-and-seeks = λ file cs all fin table own calls said last ran.
           let a =
           every-list .reads-and-seeks Stands (WalkerStep file table) file cs all fin table own (calling file table) _ calls said last
           (refl, refl) ran in
+          (a .0, (spells last (a .0) (a .1 .0), a .1 .1));
+      indexed = λ file all table own calls said last ran.
+          let a =
+          every-list .indexed Stands (WalkerStep file table) file all table own (calling file table) _ calls said last (refl, refl) ran in
           (a .0, (spells last (a .0) (a .1 .0), a .1 .1));
       cut = λ file cs all fin n short table said last ran.
           let a =
@@ -333,6 +340,10 @@ through-words =
           let a =
           every-step .finished Stands (RegisterStep file table) file cs all fin table own (stepping file table) _ blocks said last
           (refl, refl) ran in
+          (a .0, (spells last (a .0) (a .1 .0), a .1 .1));
+      indexed-steps = λ file all table own blocks said last ran.
+          let a =
+          every-step .indexed Stands (RegisterStep file table) file all table own (stepping file table) _ blocks said last (refl, refl) ran in
           (a .0, (spells last (a .0) (a .1 .0), a .1 .1));
       writing = written;
       walkers-run = λ file table ws calls. every-list .runs (WalkerStep file table) (walker-runs file table) ws calls;

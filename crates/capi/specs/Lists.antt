@@ -17,6 +17,7 @@ use Rattle.demuxer.specs.Sentences.{asAnswer}
 use Rattle.demuxer.specs.declared.packet.Packet.{Packet}
 use Rattle.demuxer.specs.declared.walker.Walker.{Walker}
 use Rattle.walk.specs.Chunks.{Chunk}
+use Rattle.walk.specs.Walk.{fileWalk}
 use Rattle.muxer.specs.Writer.{WriteOutcome}
 use Rattle.muxer.specs.Writer as muxer
 use Rattle.muxer.specs.declared.Writer.{Writer}
@@ -24,9 +25,10 @@ use Rattle.muxer.specs.declared.Settings.{Settings}
 use Rattle.recording.specs.Grammar.{Finished}
 use Rattle.recording.specs.Machine.{Call, read, seek, CallAnswer, readAnswer, Agreed, OwnIndex}
 use Rattle.recording.specs.Machine as machine
+use Rattle.recording.specs.Indexed.{FileAgreed}
 use Rattle.recording.specs.WriteLists.{WriteCall, writeStep, WritesAgreed}
 use Rattle.recording.specs.Lists.{CallsRan, DrainsCut, Lent, acceptedBy}
-use Rattle.registers.specs.Lists.{StepAnswer, StepsAgreed}
+use Rattle.registers.specs.Lists.{StepAnswer, StepsAgreed, StepsAlong}
 use Rattle.words.specs.State.{word, walkerOf, walkerWords, writerWords}
 use Rattle.capi.specs.Calls.{WalkerCall, nextAnswer, nextWalker, seekAnswer, seekWalker, StepCall, WriterCall}
 
@@ -80,18 +82,29 @@ pub data WriterStep : Lent (List ℕ) → WriteCall → Answer Unit → Lent (Li
 abbrev pub startsWith : Settings → List ℕ → Lent (List ℕ)
 startsWith s buf = record { state = writerWords (muxer.fresh s); buffer = buf }
 
--- Demand 3 of calls in C: of what the numbers and the words of a list of calls say, from the words of fresh states
+-- Of calls in C, of what the numbers and the words of a list of calls say, from the words of fresh states: that they are 01's, demand 3, and every
+-- file whose index is accepted
 pub record ThroughWords : Type 0 where
   -- the words of fresh states, as a caller in C writes them
   pub fresh-walker : walkerWords demuxer.fresh ≡ 316 ∷ 0 ∷ 0 ∷ 0 ∷ 0 ∷ 0 ∷ 18446744073709551615 ∷ []
   pub fresh-writer : (s : Settings)
       → writerWords (muxer.fresh s) ≡ s .width ∷ s .height ∷ s .fps ∷ s .rate ∷ s .channels ∷ 0 ∷ 0 ∷ 0 ∷ 0 ∷ []
-  -- of every file of bytes, as a lent one is; the last walker is the one that the last words spell
+  -- they are 01's calls, on every file and with every table: what is claimed of these holds of them. The last walker is the one that the last words
+  -- spell
+  pub same-calls : (file table : List ℕ) (calls : List Call) (said : List CallAnswer) (last : List ℕ)
+      → CallsRan (WalkerStep file table) (walkerWords demuxer.fresh) calls said last
+      → (said ≡ machine.answers file table demuxer.fresh calls) × (walkerOf last ≡ accepted (machine.after file table demuxer.fresh calls))
+  -- of every file of bytes, as a lent one is
   pub reads-and-seeks : (file : List ℕ) (cs : List Chunk) → Bytes file → Finished file cs → (table : List ℕ) → OwnIndex file table
       → (calls : List Call) (said : List CallAnswer) (last : List ℕ)
       → CallsRan (WalkerStep file table) (walkerWords demuxer.fresh) calls said last
       → (w : Walker) × ((walkerOf last ≡ accepted w) × Agreed file cs calls w said)
-  -- of reads of its first n bytes, fewer than it has (02, M-107)
+  -- be it finished or not: of every file whose index is accepted
+  pub indexed : (file : List ℕ) → Bytes file → (table : List ℕ) → OwnIndex file table
+      → (calls : List Call) (said : List CallAnswer) (last : List ℕ)
+      → CallsRan (WalkerStep file table) (walkerWords demuxer.fresh) calls said last
+      → (w : Walker) × ((walkerOf last ≡ accepted w) × FileAgreed file calls w said)
+  -- of reads of the first n bytes of a finished recording, fewer than it has (02, M-107)
   pub cut : (file : List ℕ) (cs : List Chunk) → Bytes file → Finished file cs → (n : ℕ) → n < length file → (table : List ℕ)
       → DrainsCut (λ (last : List ℕ) (w : Walker). walkerOf last ≡ accepted w) (WalkerStep (take n file) table) (walkerWords demuxer.fresh) cs n
   -- and of every list of steps, with any block at each of them
@@ -99,6 +112,10 @@ pub record ThroughWords : Type 0 where
       → (blocks : List (List ℕ)) (said : List StepAnswer) (last : List ℕ)
       → CallsRan (RegisterStep file table) (walkerWords demuxer.fresh) blocks said last
       → (w : Walker) × ((walkerOf last ≡ accepted w) × StepsAgreed file cs blocks w said)
+  pub indexed-steps : (file : List ℕ) → Bytes file → (table : List ℕ) → OwnIndex file table
+      → (blocks : List (List ℕ)) (said : List StepAnswer) (last : List ℕ)
+      → CallsRan (RegisterStep file table) (walkerWords demuxer.fresh) blocks said last
+      → (w : Walker) × ((walkerOf last ≡ accepted w) × StepsAlong file (fileWalk file) blocks w said)
   -- "The file is the first writer[7] bytes of the buffer." Of settings outside their fields' ranges no call is accepted.
   pub writing : (s : Settings) (buf : List ℕ) (calls : List WriteCall) (said : List (Answer Unit)) (last : Lent (List ℕ))
       → CallsRan WriterStep (startsWith s buf) calls said last

@@ -21,8 +21,12 @@ writing s c answer next w i (writes r after m) = rw (← i) (m .answer, (m .writ
 pub by-value : ByValue
 by-value =
     record {
+      same-calls = λ file table calls said last ran. every-list .same-calls _ _ file table (calling file table) _ calls said last refl ran;
       reads-and-seeks = λ file cs all fin table own calls said last ran.
           let a = every-list .reads-and-seeks _ _ file cs all fin table own (calling file table) _ calls said last refl ran in
+          rw (a .1 .0) (a .1 .1);
+      indexed = λ file all table own calls said last ran.
+          let a = every-list .indexed _ _ file all table own (calling file table) _ calls said last refl ran in
           rw (a .1 .0) (a .1 .1);
       cut = λ file cs all fin n short table. every-list .cut _ _ file cs all fin n short table (calling (take n file) table) _ refl;
       writes = λ s held buf calls said last ran.

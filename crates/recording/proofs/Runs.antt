@@ -13,7 +13,7 @@ use Rattle.recording.specs.Machine.{Call, CallAnswer, readAnswer, call, 
 use Rattle.recording.specs.Cut.{ReadsUntilEnd, ends, gives}
 use Rattle.recording.specs.WriteLists.{WriteCall, writeStep, kept, acceptedCalls, writerAfter, bufferAfter}
 use Rattle.recording.specs.Lists.{CallsRan, no-call, one-more, Calling, readsFor, readsSay, Lent, Writing, acceptedBy, EveryList}
-use Rattle.recording.proofs.Lists.{reads-and-seeks}
+use Rattle.recording.proofs.Lists.{reads-and-seeks, indexed-files}
 use Rattle.recording.proofs.Cuts.{cut-recordings}
 use Rattle.recording.proofs.Writes.{writes}
 
@@ -64,9 +64,13 @@ every-run Step step s (c ∷ calls) =
 pub every-list : EveryList
 every-list =
     record {
+      same-calls = λ Stands Step file table calling s calls said last i ran. follows Stands Step file table calling _ i ran;
       reads-and-seeks = λ Stands Step file cs all fin table own calling s calls said last i ran.
           let f = follows Stands Step file table calling _ i ran in
           (_, (f .1, rw (f .0) (reads-and-seeks file cs all fin table own calls)));
+      indexed = λ Stands Step file all table own calling s calls said last i ran.
+          let f = follows Stands Step file table calling _ i ran in
+          (_, (f .1, rw (f .0) (indexed-files .lists file all table own calls)));
       cut = λ Stands Step file cs all fin n short table calling s i said last ran.
           let f = follows Stands Step (take n file) table calling _ i ran in
           let u = until-end table (cut-recordings .survives file cs all fin n short .drained) in

@@ -20,7 +20,8 @@ use Rattle.muxer.specs.declared.Writer.{Writer}
 use Rattle.muxer.specs.declared.Wrote.{Wrote}
 use Rattle.walk.specs.Chunks.{Chunk}
 use Rattle.recording.specs.Grammar.{Finished}
-use Rattle.recording.specs.Machine.{Call, read, seek, CallAnswer, readAnswer, seekAnswer, Agreed, OwnIndex}
+use Rattle.recording.specs.Machine.{Call, read, seek, CallAnswer, readAnswer, seekAnswer, answers, after, Agreed, OwnIndex}
+use Rattle.recording.specs.Indexed.{FileAgreed}
 use Rattle.recording.specs.WriteLists.{WriteCall, writeStep, Held, WritesAgreed}
 use Rattle.recording.specs.Lists.{CallsRan, DrainsCut, Lent, acceptedBy}
 
@@ -36,11 +37,17 @@ pub data WriterStep : Lent Writer → WriteCall → Answer Unit → Lent Writer 
   writes : {s : Lent Writer} {c : WriteCall} (r : Wrote) (after : List ℕ) → MeetsOutcome (writeStep (s .state) (s .buffer) c) r after
       → WriterStep s c (said (r .result)) (record { state = r .writer; buffer = after })
 
--- Demand 3 of these calls, from fresh states, and 02's M-107 of reads
+-- Of these calls, from fresh states: that they are 01's, demand 3, every file whose index is accepted, and 02's M-107 of reads
 pub record ByValue : Type 0 where
+  pub same-calls : (file table : List ℕ) (calls : List Call) (said : List CallAnswer) (last : Walker)
+      → CallsRan (WalkerStep file table) demuxer.fresh calls said last
+      → (said ≡ answers file table demuxer.fresh calls) × (last ≡ after file table demuxer.fresh calls)
   pub reads-and-seeks : (file : List ℕ) (cs : List Chunk) → Bytes file → Finished file cs → (table : List ℕ) → OwnIndex file table
       → (calls : List Call) (said : List CallAnswer) (last : Walker) → CallsRan (WalkerStep file table) demuxer.fresh calls said last
       → Agreed file cs calls last said
+  pub indexed : (file : List ℕ) → Bytes file → (table : List ℕ) → OwnIndex file table
+      → (calls : List Call) (said : List CallAnswer) (last : Walker) → CallsRan (WalkerStep file table) demuxer.fresh calls said last
+      → FileAgreed file calls last said
   pub cut : (file : List ℕ) (cs : List Chunk) → Bytes file → Finished file cs → (n : ℕ) → n < length file → (table : List ℕ)
       → DrainsCut (λ (last w : Walker). last ≡ w) (WalkerStep (take n file) table) demuxer.fresh cs n
   pub writes : (s : Settings) → Held s → (buf : List ℕ) (calls : List WriteCall) (said : List (Answer Unit)) (last : Lent Writer)

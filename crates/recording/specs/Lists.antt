@@ -1,5 +1,5 @@
--- Lists of calls over any state that stands for 01's, and the claims about them: demand 3, and 02's M-107, as the callers of functions that keep
--- their state in words or behind a reference have it. Assumes nothing.
+-- Lists of calls over any state that stands for 01's, and the claims about them: demand 3, 02's M-107, and reads and seeks on every file that has an
+-- index, as the callers of functions that keep their state in words or behind a reference have it. Assumes nothing.
 use mathlib.Core.Path.{_≡_}
 use Prim.Native.Nat.{ℕ, _<_}
 use mathlib.Core.Bool.{true}
@@ -17,7 +17,8 @@ use Rattle.muxer.specs.declared.Settings.{Settings}
 use Rattle.muxer.specs.declared.Writer.{Writer}
 use Rattle.walk.specs.Chunks.{Chunk}
 use Rattle.recording.specs.Grammar.{Finished}
-use Rattle.recording.specs.Machine.{Call, read, CallAnswer, readAnswer, call, Agreed, OwnIndex}
+use Rattle.recording.specs.Machine.{Call, read, CallAnswer, readAnswer, call, answers, after, Agreed, OwnIndex}
+use Rattle.recording.specs.Indexed.{FileAgreed}
 use Rattle.recording.specs.Cut.{survivors, endedAt}
 use Rattle.recording.specs.WriteLists.{WriteCall, writeStep, kept, Held, WritesAgreed}
 
@@ -68,13 +69,26 @@ DrainsCut {S} Is Step first cs n =
     (said : List CallAnswer) (last : S) → CallsRan Step first (readsFor (survivors n cs)) said last
     → (said ≡ readsSay (survivors n cs)) × Is last (endedAt cs (length (survivors n cs)) true NotMet)
 
--- Demand 3 over any state, of what the calls answered and left
+-- of what the calls answered and left, over any state
 pub record EveryList : Type 1 where
+  -- they answer what 01's calls do, on every file and with every table, and leave a state that stands for their walker: what is claimed of these lists
+  -- holds of those
+  pub same-calls : {S : Type 0} (Stands : S → Walker → Type 0) (Step : S → Call → CallAnswer → S → Type 0) (file table : List ℕ)
+      → Calling Stands Step file table
+      → (s : S) (calls : List Call) (said : List CallAnswer) (last : S) → Stands s demuxer.fresh → CallsRan Step s calls said last
+      → (said ≡ answers file table demuxer.fresh calls) × Stands last (after file table demuxer.fresh calls)
+  -- demand 3
   pub reads-and-seeks : {S : Type 0} (Stands : S → Walker → Type 0) (Step : S → Call → CallAnswer → S → Type 0)
       → (file : List ℕ) (cs : List Chunk) → Bytes file → Finished file cs → (table : List ℕ) → OwnIndex file table
       → Calling Stands Step file table
       → (s : S) (calls : List Call) (said : List CallAnswer) (last : S) → Stands s demuxer.fresh → CallsRan Step s calls said last
       → (w : Walker) × (Stands last w × Agreed file cs calls w said)
+  -- every file whose index is accepted
+  pub indexed : {S : Type 0} (Stands : S → Walker → Type 0) (Step : S → Call → CallAnswer → S → Type 0)
+      → (file : List ℕ) → Bytes file → (table : List ℕ) → OwnIndex file table
+      → Calling Stands Step file table
+      → (s : S) (calls : List Call) (said : List CallAnswer) (last : S) → Stands s demuxer.fresh → CallsRan Step s calls said last
+      → (w : Walker) × (Stands last w × FileAgreed file calls w said)
   pub cut : {S : Type 0} (Stands : S → Walker → Type 0) (Step : S → Call → CallAnswer → S → Type 0)
       → (file : List ℕ) (cs : List Chunk) → Bytes file → Finished file cs → (n : ℕ) → n < length file → (table : List ℕ)
       → Calling Stands Step (take n file) table → (s : S) → Stands s demuxer.fresh → DrainsCut Stands Step s cs n
