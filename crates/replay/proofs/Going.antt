@@ -8,10 +8,9 @@ use lib.ListN.{length}
 use Rattle.fields.specs.Le.{Bytes, put}
 use Rattle.demuxer.specs.Read.{fresh}
 use Rattle.demuxer.specs.declared.walker.Walker.{Walker}
-use Rattle.walk.specs.Chunks.{Chunk}
-use Rattle.recording.specs.Grammar.{Finished}
-use Rattle.recording.specs.Machine.{Call, answers, after, call, Agreed, OwnIndex}
-use Rattle.recording.proofs.Lists.{reads-and-seeks}
+use Rattle.recording.specs.Machine.{Call, answers, after, call, OwnIndex}
+use Rattle.recording.specs.Indexed.{FileAgreed}
+use Rattle.recording.proofs.Lists.{indexed-files}
 use Rattle.rows.specs.Rows.{callsFrom, rowsOf, stateAfter}
 use Rattle.rows.proofs.Laws.{Going, going-first, going-on, last-state, last-rows, rows-back}
 use Rattle.replay.specs.Replay.{callAt, rowWords, rowAnswer, step, answersBy, answersIn, Run}
@@ -79,5 +78,5 @@ module _ (file table kinds streams : List ℕ) (requests : List ℤ) (n : ℕ) (
       }
 
 pub agreed : (file table : List ℕ) (calls : List Call) (n : ℕ) {before : List ℕ} (rows : List ℕ) {w : Walker} → Run file table calls n before w rows
-    → (cs : List Chunk) → Bytes file → Finished file cs → OwnIndex file table → Agreed file cs calls w (answersIn file rows n)
-agreed file table calls n rows run cs all fin own = rw (run .walker-is, run .said-are) (reads-and-seeks file cs all fin table own calls)
+    → Bytes file → OwnIndex file table → FileAgreed file calls w (answersIn file rows n)
+agreed file table calls n rows run all own = rw (run .walker-is, run .said-are) (indexed-files .lists file all table own calls)

@@ -15,9 +15,8 @@ use Rattle.demuxer.specs.Read as read-answer
 use Rattle.demuxer.specs.declared.walker.Walker.{Walker}
 use Rattle.demuxer.specs.declared.packet.PacketDuration.{PacketDuration}
 use Rattle.demuxer.specs.declared.packet.PacketDuration.the-variants.{Ticks, None}
-use Rattle.walk.specs.Chunks.{Chunk}
-use Rattle.recording.specs.Grammar.{Finished}
-use Rattle.recording.specs.Machine.{Call, read, seek, CallAnswer, readAnswer, seekAnswer, call, answers, after, Agreed, OwnIndex}
+use Rattle.recording.specs.Machine.{Call, read, seek, CallAnswer, readAnswer, seekAnswer, call, answers, after, OwnIndex}
+use Rattle.recording.specs.Indexed.{FileAgreed}
 use Rattle.rows.specs.Rows.{oneLength, callsFrom, CallStep, rowsOf, numbers, rowsIn}
 use Rattle.replay.specs.declared.Row.{Row}
 use Rattle.replay.specs.declared.CallsResult.{CallsResult}
@@ -109,10 +108,10 @@ Replayed file table kinds streams requests rows Unequal left = (equal kinds stre
 Replayed file table kinds streams requests rows NoRoom left =
     (equal kinds streams requests ≡ true) × ((length rows < length kinds * 6) × (left ≡ rows))
 
--- demand 3 for reads and seeks, of what the function returns on a finished recording and its own index
+-- what is claimed of reads and seeks, of what the function returns on every file whose index is accepted, and its own index; of a finished recording
+-- that is demand 3 (recording/specs/Indexed: `IndexedFiles`, field `finished`)
 abbrev pub Compared : List ℕ → List ℕ → List ℕ → List ℕ → List ℤ → CallsResult → List ℕ → Type 0
 Compared file table kinds streams requests (Done w) left =
-    (cs : List Chunk) → Finished file cs → OwnIndex file table
-    → Agreed file cs (callsOf kinds streams requests) w (answersIn file left (length kinds))
+    OwnIndex file table → FileAgreed file (callsOf kinds streams requests) w (answersIn file left (length kinds))
 Compared file table kinds streams requests Unequal left = Unit
 Compared file table kinds streams requests NoRoom left = Unit

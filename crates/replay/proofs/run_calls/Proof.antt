@@ -109,7 +109,7 @@ returns-4 c =
     let t = c .before .before .before in
     let run = replaying-last _ _ _ _ _ _ _ (c .before .loop .inv) (omega arith) in
     let all : Bytes (s .before .args .file .now) = unfold Bytes in λ k. s .shared-slice-known .given k .fits in
-    ((rw (eq-eqb _ _ (t .before .before .if1 .left), eq-eqb _ _ (t .before .if2 .left)) refl, run), λ cs fin own. agreed _ _ _ _ _ run cs all fin own)
+    ((rw (eq-eqb _ _ (t .before .before .if1 .left), eq-eqb _ _ (t .before .if2 .left)) refl, run), λ own. agreed _ _ _ _ _ run all own)
 
 pub run-calls-spec : {M : Type 1} → statement M
 run-calls-spec =
