@@ -8,3 +8,4 @@ pub mod Sounds
 pub mod Words
 pub mod Registers
 pub mod Cut
+pub mod Jumps

@@ -10,3 +10,4 @@ pub mod Sounds
 pub mod Words
 pub mod Registers
 pub mod Cut
+pub mod Jumps
