@@ -36,7 +36,7 @@ use Rattle.recording.specs.CutJumps.{FromWhole, AllFromWhole, recordedIn
 use Rattle.recording.proofs.Positions.{passed, shownAt, positionAt, drainAt}
 use Rattle.recording.proofs.Tables.{finished-walk}
 use Rattle.recording.proofs.Drains.{all-whole}
-use Rattle.recording.proofs.Recorded.{recorded-cut, recorded-on, all-recorded, one-more, least, most}
+use Rattle.recording.proofs.Recorded.{by-record, recorded-on, all-recorded, one-more, least, most}
 use Rattle.recording.proofs.Seeks.{meets, first-cons}
 use Rattle.recording.proofs.Indexed.{Jumped, lists, own-jump}
 use Rattle.recording.proofs.Cuts.{cut-walk, reads, survivors-are, as-many}
@@ -75,7 +75,7 @@ module _ (n stream : ℕ) (request : ℤ) where
   first-cut : {at : ℕ} {cs : List Chunk} {v : Walk} → CutWalk n at cs v → (p : Position) → First p cs (recordedOf v)
   first-cut {cs = cs} (few l) p = unfold recordedOf in first-none p cs
   first-cut (inside {kind = kind} {payload = payload} {part = part} {missing = missing} {cs = cs} a b z) p =
-      recorded-cut (First p (chunkOf kind payload ∷ cs)) kind part missing (first-none p (chunkOf kind payload ∷ cs))
+      by-record (First p (chunkOf kind payload ∷ cs)) kind part missing (first-none p (chunkOf kind payload ∷ cs))
       (first-more p kind part payload cs [] (first-none (passed p kind payload) cs) (unfold first drainFrom in refl))
   first-cut (whole {kind = kind} {payload = payload} {cs = cs} {rest = rest} l later) p =
       subst (First p (chunkOf kind payload ∷ cs)) (sym (recorded-on kind payload rest))
@@ -86,7 +86,7 @@ module _ (n : ℕ) where
   few-recorded : {at : ℕ} {cs : List Chunk} {v : Walk} → CutWalk n at cs v → length (recordedOf v) ≤ length cs
   few-recorded (few l) = unfold recordedOf in omega arith
   few-recorded (inside {kind = kind} {payload = payload} {part = part} {missing = missing} {cs = cs} a b z) =
-      recorded-cut (λ (rs : List Chunk). length rs ≤ length (chunkOf kind payload ∷ cs)) kind part missing (omega arith) (omega arith)
+      by-record (λ (rs : List Chunk). length rs ≤ length (chunkOf kind payload ∷ cs)) kind part missing (omega arith) (omega arith)
   few-recorded (whole {kind = kind} {payload = payload} {cs = cs} {rest = rest} l later) =
       let i = few-recorded later in
       let e = ap length (recorded-on kind payload rest) in
@@ -100,7 +100,7 @@ module _ (n : ℕ) where
   unfolding positionAt
   place-cut (few l) p = λ k h. absurd (unfold recordedOf in not-suc-le-zero h)
   place-cut (inside {kind = kind} {payload = payload} {part = part} {missing = missing} {cs = cs} a b z) p =
-      recorded-cut (SamePlace p (chunkOf kind payload ∷ cs)) kind part missing (λ k h. absurd (not-suc-le-zero h)) on
+      by-record (SamePlace p (chunkOf kind payload ∷ cs)) kind part missing (λ k h. absurd (not-suc-le-zero h)) on
     where
       on : SamePlace p (chunkOf kind payload ∷ cs) (chunkOf kind part ∷ [])
       on zero h = refl

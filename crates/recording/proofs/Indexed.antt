@@ -10,7 +10,7 @@ use native.Mathlib.Nat.{le-of-suc-le-suc, not-suc-le-zero}
 use native.Mathlib.Omega.{arith}
 use borrow.Author.Tests.{eq-eqb, ne-eqb, le-leb, leb-true}
 use lib.Dec.{leb}
-use lib.IntN.{ℤ}
+use lib.IntN.{ℤ, pos}
 use lib.ListN.{length, take, drop, getElem?}
 use lib.Seq.{take-length}
 use Rattle.prelude.specs.Layout.{preludeLen}
@@ -28,8 +28,9 @@ use Rattle.demuxer.specs.declared.walker.Trailer.the-variants.{At}
 use Rattle.demuxer.specs.declared.walker.Walker.{Walker}
 use Rattle.demuxer.proofs.Ranges.{in-range}
 use Rattle.walk.specs.Chunks.{Chunk, chunkOf, chunksBytes}
-use Rattle.walk.specs.Walk.{Stop, ranOut, trailer, unknownTag, Walk, fileWalk}
+use Rattle.walk.specs.Walk.{Stop, ranOut, trailer, unknownTag, Walk, stop, chunk, fileWalk}
 use Rattle.walk.specs.declared.Kind.{Kind}
+use Rattle.walk.specs.declared.Kind.the-variants.{Frame}
 use Rattle.walk.proofs.Walked.{walked-range}
 use Rattle.chunk_index.specs.Entry.{entryLen, tableBytes, entriesOf}
 use Rattle.chunk_index.specs.Index.{records, tagsKnown, indexOf}
@@ -38,8 +39,8 @@ use Rattle.table.specs.Table.{tableQuestions}
 use Rattle.seek.specs.Seek.{stampOf, find, pastLast, Seeking, landed, seekOf}
 use Rattle.seek.proofs.Seeks.{no-stream, all-pass, when-refused, when-accepted}
 use Rattle.chunk_index.proofs.Entries.{length-table}
-use Rattle.recording.specs.Drain.{drain}
-use Rattle.recording.specs.Machine.{Call, read, seek, ends, MachineStep, onRead, onSeek, first, refuses, machineStep}
+use Rattle.recording.specs.Drain.{drain, drainFrom}
+use Rattle.recording.specs.Machine.{Call, read, seek, ends, goes, MachineStep, onRead, onSeek, first, refuses, machineStep}
 use Rattle.recording.specs.Machine.{readAnswer, seekAnswer, CallOutcome, call, answers, after, Agrees, AllAgree, PacketsLeft, none-left}
 use Rattle.recording.specs.Machine as machine
 use Rattle.recording.specs.Machine.{AtChunk, OwnIndex}
@@ -51,6 +52,14 @@ use Rattle.recording.proofs.Seeks.{Finds, hit, miss, finds}
 use Rattle.recording.proofs.Recorded.{one-more, least, most, same-position, records-are, record-position, all-met, all-fit, all-good, last-range}
 use Rattle.demuxer.proofs.Sentences.{read-sentences}
 use Rattle.recording.proofs.Drains.{standing, endedBy, ReadWalk, stops, cut-short, whole, read-walk}
+
+-- a walk with one frame, of which 2 bytes are missing: a jump goes to it and a read gives End there; a jump clears end, and not what a read has met
+at-a-cut-frame : let v = chunk Frame (1 ∷ []) 2 (stop ranOut) in
+    (fileStep v 0 (seek 0 (pos 0)) ≡ record { says = goes 0; place = 0 })
+    × (fileStep v 0 read ≡ record { says = ends; place = 0 })
+    × (markedBy (record { end = true; met = true }) (goes 0) ≡ record { end = false; met = true })
+unfolding wholesOf recordedOf drainFrom first machineStep fileStep
+at-a-cut-frame = (refl, refl, refl)
 
 -- ---- the read at each position
 

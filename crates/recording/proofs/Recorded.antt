@@ -39,10 +39,10 @@ wholes-cut : (kind : Kind) (part : List ℕ) (missing : ℕ) → 0 < missing →
 unfolding wholesOf
 wholes-cut kind part missing m = rw (ne-eqb missing 0 (λ e. omega arith))
 
-pub recorded-cut : (P : List Chunk → Type 0) (kind : Kind) (part : List ℕ) (missing : ℕ) → P [] → P (chunkOf kind part ∷ [])
+pub by-record : (P : List Chunk → Type 0) (kind : Kind) (part : List ℕ) (missing : ℕ) → P [] → P (chunkOf kind part ∷ [])
     → P (recordedOf (chunk kind part missing (stop ranOut)))
 unfolding recordedOf
-recorded-cut P kind part missing without with-one = on (recorded kind part missing)
+by-record P kind part missing without with-one = on (recorded kind part missing)
   where
     on : (t : Bool) → P (cond t (chunkOf kind part ∷ []) [])
     on true = with-one
@@ -71,7 +71,7 @@ unfolding wholesOf
 one-more (stops h r) = unfold recordedOf in none-more
 one-more (cut-short {kind = kind} {part = part} {missing = missing} h m r) =
     subst (λ (ws : List Chunk). OneMore ws (recordedOf (chunk kind part missing (stop ranOut)))) (sym (wholes-cut kind part missing m))
-    (recorded-cut (OneMore []) kind part missing none-more one-cut)
+    (by-record (OneMore []) kind part missing none-more one-cut)
 one-more (whole {kind = kind} {payload = payload} {rest = rest} h r later) =
     subst (OneMore (chunkOf kind payload ∷ wholesOf rest)) (sym (recorded-on kind payload rest)) (one-whole (one-more later))
 
@@ -135,7 +135,7 @@ pub all-met : {file : List ℕ} {p : Position} {v : Walk} → ReadWalk file p v 
 unfolding recordsOf
 all-met (stops h r) = unfold recordedOf in tt
 all-met {p = p} (cut-short {kind = kind} {part = part} {missing = missing} h m r) =
-    recorded-cut (λ (rs : List Chunk). AllMet (recordsOf p rs)) kind part missing tt (record { kind = kind; tag-is = refl; headed = h }, tt)
+    by-record (λ (rs : List Chunk). AllMet (recordsOf p rs)) kind part missing tt (record { kind = kind; tag-is = refl; headed = h }, tt)
 all-met {p = p} (whole {kind = kind} {payload = payload} {rest = rest} h r later) =
     subst (λ (rs : List Chunk). AllMet (recordsOf p rs)) (sym (recorded-on kind payload rest))
     (record { kind = kind; tag-is = refl; headed = h }, all-met later)
