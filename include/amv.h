@@ -19,7 +19,10 @@
  * Cut. A file is cut where it ends before its trailer, at a chunk or inside one: the supply dropped while it was written. What stands before
  * can be read, indexed and jumped to. Of every finished recording, cut to any length, it is proved: reads from a fresh walker give exactly the
  * packets whose chunk ends within the cut, each as in the whole recording, then End, with cut set; amv_check gives 60 at the first chunk that is
- * lost. Below 316 bytes, AMV_PRELUDE_LEN, amv_parse and amv_check give 11.
+ * lost. Below 316 bytes, AMV_PRELUDE_LEN, amv_parse and amv_check give 11. And of every list of reads and jumps, in whatever order, with the file's
+ * own index: every packet is one of the whole recording, and a jump to a chunk that is there answers the stamp, leaves the cursor and the counts and
+ * plays on with the packets that it would have in the whole recording, as far as the file has them. So of every file that amv_build_chunk_index
+ * accepts, finished, cut or with bytes after its trailer: after any run of jumps, sound and clock belong to that picture.
  */
 #ifndef AMV_H
 #define AMV_H
@@ -146,9 +149,10 @@ uint32_t amv_next_packet(const uint8_t *file, size_t len, uint64_t walker[AMV_WA
  * before (4), samples before (8), little-endian. Bytes after the last record stay as they are. A table of (len / 8) * AMV_ENTRY_LEN bytes is
  * always enough. out: place, the number of records. Refuses with 10, 31 and 40.
  *
- * A file that is refused with 31 at p has something other than a chunk at offset p, as a damaged one can. Its first p bytes have an index, a
- * record for each chunk before p: go on with p as the length of the file, for this call, for reads and for the summary. They are a file that
- * is cut. */
+ * A file that is refused with 31 at p has something other than a chunk at offset p, as a damaged one can, and one of FFmpeg's, which puts a zero byte
+ * before the trailer where the last chunk ends at an odd offset. Its first p bytes have an index, a record for each chunk before p, each of which is
+ * whole: go on with p as the length of the file, for this call, for reads and for the summary. They are a file that is cut, and every list of reads
+ * and jumps on them is proved to agree with these chunks. */
 enum {
     AMV_ENTRY_TAG = 0,
     AMV_ENTRY_OFFSET = 4,
@@ -164,7 +168,10 @@ uint32_t amv_build_chunk_index(const uint8_t *file, size_t len, uint8_t *table, 
  * sound and clock belong to the picture. Where there is none, the walker stands at the end: its end is 1. Cut and trailer stay as they
  * are. The table is the records of amv_build_chunk_index and nothing after them: table_len is AMV_ENTRY_LEN times their number. out: place,
  * the stream's stamp where the walker stands. Refuses with 1, 42, 41, 43 and 32, in this order: a stream that does not exist is told whatever
- * the table is. */
+ * the table is.
+ *
+ * The last record can be of the chunk in which a file ends. A jump goes there as to any other and answers its stamp, and the read that follows gives
+ * End, with cut. A jump to the end does not look at the file: after it a read gives End, and cut and trailer are what reads before it found. */
 enum { AMV_SEEK_STAMP = 1, AMV_SEEK_WORDS };
 uint32_t amv_seek_to_via_index(const uint8_t *table, size_t table_len, uint64_t walker[AMV_WALKER_WORDS], uint32_t stream, int64_t request, uint64_t out[AMV_SEEK_WORDS]);
 

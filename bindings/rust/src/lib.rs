@@ -7,7 +7,9 @@
 //!
 //! A file is cut where it ends before its trailer, at a chunk or inside one. What stands before can be read, indexed and jumped to. Of every
 //! finished recording, cut to any length, it is proved: reads from its start give exactly the packets whose chunk ends within the cut, each as in the
-//! whole recording, and then [`AmvDemuxer::is_truncated`] says so.
+//! whole recording, and then [`AmvDemuxer::is_truncated`] says so. And of every list of reads and jumps: every packet is one of the whole recording, and
+//! a jump to a chunk that is there answers the stamp and plays on with the packets that it would have in the whole recording, as far as the file has
+//! them.
 
 use std::fmt;
 
@@ -179,7 +181,7 @@ impl ChunkIndexEntry {
 
 impl ChunkIndex {
     /// The index of a file. Refuses with 10 and 31. A file that is refused with 31 at p has something other than a chunk there; its first p
-    /// bytes have an index, so go on with `&file[..p]`.
+    /// bytes have an index, so go on with `&file[..p]`: every chunk before p is whole, and can be read and jumped to.
     pub fn build(file: &[u8]) -> Result<ChunkIndex> {
         let counts = summary(file)?;
         // A chunk that is cut does not count, and may have a record.
@@ -420,8 +422,9 @@ impl<'a> AmvDemuxer<'a> {
         self.index.as_ref()
     }
 
-    /// Jumps to the first chunk of a stream stamped at or after the request, or to the end; gives the stream's stamp there. The index is
-    /// built if it is not there yet. Refuses with 31 where it cannot be built, and with 42 and 32.
+    /// Jumps to the first chunk of a stream stamped at or after the request, or to the end; gives the stream's stamp there. That can be the chunk in
+    /// which the file ends: the read that follows is then the end. The index is built if it is not there yet. Refuses with 31 where it cannot be
+    /// built, and with 42 and 32.
     pub fn seek_to(&mut self, stream_index: u32, requested_pts: i64) -> Result<u64> {
         if self.index.is_none() {
             self.build_chunk_index()?;

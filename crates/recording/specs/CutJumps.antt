@@ -1,5 +1,5 @@
--- Reads and seeks on a finished recording that was cut, against the whole of it: "a jump to a picture that survived shows the picture, the sound and
--- the clock that the whole recording would have shown". Assumes nothing.
+-- Reads and seeks on a finished recording that was cut, against the whole of it: a jump to a picture that survived shows the picture, the sound and
+-- the clock that the whole recording would have shown. Assumes nothing.
 use mathlib.Core.Path.{_≡_}
 use Prim.Native.Nat.{ℕ, suc, _-_, _≤_, _<_, min}
 use mathlib.Core.List.{List, [], _∷_}
@@ -21,7 +21,7 @@ use Rattle.recording.specs.Cut.{survivors}
 
 -- ---- packets
 
--- a call on the cut file that gives a packet gives one "of the full drain, with the same stream, payload, stamp and duration": number k, which survives
+-- a call on the cut file that gives a packet gives one of the full drain, with the same stream, payload, stamp and duration: number k, which survives
 abbrev pub FromWhole : List Chunk → ℕ → CallAnswer → Type 0
 FromWhole cs n (readAnswer (packet p)) = (k : ℕ) × (k < length (survivors n cs)) × (getElem? (drain cs) k ≡ some p)
 FromWhole cs n (readAnswer End) = Unit

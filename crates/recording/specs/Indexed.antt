@@ -43,8 +43,9 @@ stopOf (chunk kind payload missing rest) = stopOf rest
 
 -- ---- the plain machine of a file
 
--- Its state is a position among the records or the end: a number, the end being the number of records. A read is the plain machine's over the whole
--- chunks, so that at a record whose payload is cut, and at the end, it answers End and stays; a seek is the plain machine's over the records.
+-- Its state is a position among the records or the end: a number, the end being the number of records. A read is 01's plain machine's over the whole
+-- chunks, so that at a record whose payload is cut, and at the end, it answers End and stays; a seek is 01's plain machine's over the chunks with a
+-- record. Of a finished recording both lists are all its chunks.
 unfoldable pub fileStep : Walk → ℕ → Call → MachineStep
 fileStep v k read = machineStep (drain (wholesOf v)) k read
 fileStep v k (seek stream request) = machineStep (drain (recordedOf v)) k (seek stream request)
@@ -123,8 +124,8 @@ FileAgreed file calls w said = AgreedAlong file (fileWalk file) calls w said
 abbrev pub FileAgreement : List ℕ → List ℕ → List Call → Type 0
 FileAgreement file table calls = FileAgreed file calls (after file table fresh calls) (answers file table fresh calls)
 
--- A file in which something other than a chunk stands at p: "its first p bytes have an accepted index, so the claim holds of them", and it is about all
--- chunks before p: each of them is whole and has a record.
+-- A file in which something other than a chunk stands at p: its first p bytes have an accepted index, so the claim holds of them, and it is about all
+-- chunks before p, each of which is whole and has a record.
 pub record BeforeDamage (file : List ℕ) (p : ℕ) : Type 0 where
   pub table : List ℕ
   pub own : OwnIndex (take p file) table

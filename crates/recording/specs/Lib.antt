@@ -1,4 +1,5 @@
--- The finished recording, the three claims about whole lists of calls, and which packets survive a cut: docs/FORMAT.md, sections 8 and 11.
+-- The finished recording, the claims about whole lists of calls on it and on every file that has an index, and a recording that was cut: docs/FORMAT.md,
+-- sections 8 and 11.
 pub mod Grammar
 pub mod Drain
 pub mod Machine
