@@ -3,10 +3,12 @@
 use mathlib.Core.Path.{_≡_, refl, sym, ap, _∙_, subst}
 use mathlib.Core.Bool.{Bool, true, false}
 use mathlib.Core.List.{List, [], _∷_}
+use mathlib.Core.Option.{some}
 use Prim.Native.Nat.{ℕ, zero, suc, _+_, _-_, _≤_, _<_}
+use native.Mathlib.Nat.{le-of-suc-le-suc, not-suc-le-zero}
 use native.Mathlib.Omega.{arith}
 use borrow.Author.Tests.{ne-eqb}
-use lib.ListN.{length}
+use lib.ListN.{length, getElem?}
 use Rattle.error.specs.Answer.{accepted}
 use Rattle.error.proofs.Answers.{never}
 use Rattle.fields.specs.File.{fileLimit}
@@ -14,7 +16,7 @@ use Rattle.fields.specs.Le.{Bytes}
 use Rattle.prelude.specs.Layout.{preludeLen}
 use Rattle.demuxer.specs.Head.{headAt}
 use Rattle.demuxer.specs.Packet.{Shown}
-use Rattle.demuxer.specs.Position.{start}
+use Rattle.demuxer.specs.Position.{start, InRange}
 use Rattle.demuxer.specs.Read.{Reading, packet, End, cutOff, atTrailer, payloadAt, readHead, readOf}
 use Rattle.demuxer.specs.declared.head.Head.{Head}
 use Rattle.demuxer.specs.declared.head.Head.the-variants as head
@@ -170,6 +172,53 @@ module _ (file : List ℕ) (bytes : Bytes file) (fits : length file ≤ fileLimi
   read-walk known =
       along file (λ p. Stood p → Known p → ReadsFrom p) (λ p later h k. by-head p h k (λ c g. later c g)) start
       (record { walked = walked-start; within = omega arith }) known
+
+-- ---- the read at each position
+
+-- position k of these whole chunks, after which the walk stops
+pub data ReadAt (file : List ℕ) (p : Position) (ws : List Chunk) (s : Stop) (k : ℕ) : Type 0 where
+  gives-one : (shown : Shown) → k < length ws → getElem? (drainAt p ws) k ≡ some shown
+      → ((cut : Bool) (t : Trailer)
+      → readOf file (standing (positionAt p k ws) cut t) ≡ record { answer = packet shown; walker = standing (positionAt p (suc k) ws) cut t })
+      → ReadAt file p ws s k
+  gives-none : length ws ≡ k
+      → ((cut : Bool) (t : Trailer)
+      → readOf file (standing (positionAt p k ws) cut t) ≡ record { answer = End; walker = endedBy s (standing (positionAt p k ws) cut t) })
+      → ReadAt file p ws s k
+
+no-chunk : {file : List ℕ} {p : Position} {s : Stop}
+    → ((cut : Bool) (t : Trailer) → readOf file (standing p cut t) ≡ record { answer = End; walker = endedBy s (standing p cut t) })
+    → (k : ℕ) → k ≤ 0 → ReadAt file p [] s k
+unfolding positionAt
+no-chunk r zero l = gives-none refl r
+no-chunk r (suc k) l = absurd (not-suc-le-zero l)
+
+one-on : {file : List ℕ} {p : Position} {ws : List Chunk} {s : Stop} {k : ℕ} (kind : Kind) (payload : List ℕ)
+    → ReadAt file (passed p kind payload) ws s k → ReadAt file p (chunkOf kind payload ∷ ws) s (suc k)
+unfolding positionAt
+one-on {p = p} {ws} kind payload (gives-one shown l e r) = gives-one shown (omega arith) (rw (drain-cons p kind payload ws) e) r
+one-on kind payload (gives-none e r) = gives-none (ap suc e) r
+
+pub read-at : {file : List ℕ} {p : Position} {v : Walk} → ReadWalk file p v → (k : ℕ) → k ≤ length (wholesOf v) → ReadAt file p (wholesOf v) (stopOf v) k
+unfolding wholesOf stopOf positionAt
+read-at (stops h r) k l = no-chunk r k l
+read-at (cut-short {missing = missing} h m r) k l =
+    let n = ne-eqb missing 0 (λ e. omega arith) in
+    rw n (no-chunk r k (rw n at l))
+read-at {p = p} (whole {kind = kind} {payload = payload} {rest = rest} h r later) zero l =
+    gives-one (shownAt p kind payload) (omega arith) (rw (drain-cons p kind payload (wholesOf rest))) r
+read-at (whole {kind = kind} {payload = payload} h r later) (suc k) l = one-on kind payload (read-at later k (le-of-suc-le-suc l))
+
+-- each position is in range
+pub ranged : {file : List ℕ} {p : Position} {v : Walk} → ReadWalk file p v → (k : ℕ) → k ≤ length (wholesOf v) → InRange (positionAt p k (wholesOf v))
+unfolding wholesOf positionAt
+ranged {p = p} (stops h r) zero l = walked-range p (h .walked) (h .within)
+ranged {p = p} (stops h r) (suc k) l = walked-range p (h .walked) (h .within)
+ranged {p = p} (cut-short {missing = missing} h m r) zero l = walked-range p (h .walked) (omega (arith, h .within))
+ranged {p = p} (cut-short {missing = missing} h m r) (suc k) l =
+    rw (ne-eqb missing 0 (λ e. omega arith)) (walked-range p (h .walked) (omega (arith, h .within)))
+ranged {p = p} (whole h r later) zero l = walked-range p (h .walked) (omega (arith, h .within))
+ranged (whole h r later) (suc k) l = ranged later k (le-of-suc-le-suc l)
 
 -- ---- reads until End
 

@@ -8,7 +8,7 @@ use mathlib.Core.Option.{Option, none, some}
 use Prim.Native.Nat.{ℕ, zero, suc, _+_, _-_, _%_, _≤_, _<_}
 use native.Mathlib.Nat.{le-of-suc-le-suc, not-suc-le-zero}
 use native.Mathlib.Omega.{arith}
-use borrow.Author.Tests.{eq-eqb, ne-eqb, le-leb, leb-true}
+use borrow.Author.Tests.{eq-eqb, le-leb, leb-true}
 use lib.Dec.{leb}
 use lib.IntN.{ℤ, pos}
 use lib.ListN.{length, take, drop, getElem?}
@@ -21,17 +21,14 @@ use Rattle.fields.specs.File.{fileLimit, withinLimit}
 use Rattle.fields.specs.Le.{Bytes}
 use Rattle.demuxer.specs.Packet.{Shown}
 use Rattle.demuxer.specs.Position.{start, InRange}
-use Rattle.demuxer.specs.Read.{ReadAnswer, packet, End, fresh, readOf}
+use Rattle.demuxer.specs.Read.{ReadAnswer, End, fresh, readOf}
 use Rattle.demuxer.specs.declared.position.Position.{Position}
-use Rattle.demuxer.specs.declared.walker.Trailer.{Trailer}
 use Rattle.demuxer.specs.declared.walker.Trailer.the-variants.{At}
 use Rattle.demuxer.specs.declared.walker.Walker.{Walker}
 use Rattle.demuxer.proofs.Ranges.{in-range}
-use Rattle.walk.specs.Chunks.{Chunk, chunkOf, chunksBytes}
+use Rattle.walk.specs.Chunks.{Chunk, chunksBytes}
 use Rattle.walk.specs.Walk.{Stop, ranOut, trailer, unknownTag, Walk, stop, chunk, fileWalk}
-use Rattle.walk.specs.declared.Kind.{Kind}
 use Rattle.walk.specs.declared.Kind.the-variants.{Frame}
-use Rattle.walk.proofs.Walked.{walked-range}
 use Rattle.chunk_index.specs.Entry.{entryLen, tableBytes, entriesOf}
 use Rattle.chunk_index.specs.Index.{records, tagsKnown, indexOf}
 use Rattle.chunk_index.specs.declared.entry.ChunkIndexEntry.{ChunkIndexEntry}
@@ -46,12 +43,12 @@ use Rattle.recording.specs.Machine as machine
 use Rattle.recording.specs.Machine.{AtChunk, OwnIndex}
 use Rattle.recording.specs.Indexed.{wholesOf, recordedOf, stopOf, fileStep, fileSays, fileAfter, Marks, unmarked, markedBy, marksAfter}
 use Rattle.recording.specs.Indexed.{cutBy, trailerBy, Marked, LeftAlong, AgreedAlong, FileAgreement}
-use Rattle.recording.proofs.Positions.{passed, shownAt, positionAt, drainAt, drain-cons, length-drain, counted}
+use Rattle.recording.proofs.Positions.{positionAt, length-drain, counted}
 use Rattle.recording.proofs.Tables.{recordsOf, table-back}
 use Rattle.recording.proofs.Seeks.{Finds, hit, miss, finds}
 use Rattle.recording.proofs.Recorded.{one-more, least, most, same-position, records-are, record-position, all-met, all-fit, all-good, last-range}
 use Rattle.demuxer.proofs.Sentences.{read-sentences}
-use Rattle.recording.proofs.Drains.{standing, endedBy, ReadWalk, stops, cut-short, whole, read-walk}
+use Rattle.recording.proofs.Drains.{standing, endedBy, ReadWalk, read-walk, ReadAt, gives-one, gives-none, read-at, ranged}
 
 -- a walk with one frame, of which 2 bytes are missing: a jump goes to it and a read gives End there; a jump clears end, and not what a read has met
 at-a-cut-frame : let v = chunk Frame (1 ∷ []) 2 (stop ranOut) in
@@ -60,53 +57,6 @@ at-a-cut-frame : let v = chunk Frame (1 ∷ []) 2 (stop ranOut) in
     × (markedBy (record { end = true; met = true }) (goes 0) ≡ record { end = false; met = true })
 unfolding wholesOf recordedOf drainFrom first machineStep fileStep
 at-a-cut-frame = (refl, refl, refl)
-
--- ---- the read at each position
-
--- position k of these whole chunks, after which the walk stops
-data ReadAt (file : List ℕ) (p : Position) (ws : List Chunk) (s : Stop) (k : ℕ) : Type 0 where
-  gives-one : (shown : Shown) → k < length ws → getElem? (drainAt p ws) k ≡ some shown
-      → ((cut : Bool) (t : Trailer)
-      → readOf file (standing (positionAt p k ws) cut t) ≡ record { answer = packet shown; walker = standing (positionAt p (suc k) ws) cut t })
-      → ReadAt file p ws s k
-  gives-none : length ws ≡ k
-      → ((cut : Bool) (t : Trailer)
-      → readOf file (standing (positionAt p k ws) cut t) ≡ record { answer = End; walker = endedBy s (standing (positionAt p k ws) cut t) })
-      → ReadAt file p ws s k
-
-no-chunk : {file : List ℕ} {p : Position} {s : Stop}
-    → ((cut : Bool) (t : Trailer) → readOf file (standing p cut t) ≡ record { answer = End; walker = endedBy s (standing p cut t) })
-    → (k : ℕ) → k ≤ 0 → ReadAt file p [] s k
-unfolding positionAt
-no-chunk r zero l = gives-none refl r
-no-chunk r (suc k) l = absurd (not-suc-le-zero l)
-
-one-on : {file : List ℕ} {p : Position} {ws : List Chunk} {s : Stop} {k : ℕ} (kind : Kind) (payload : List ℕ)
-    → ReadAt file (passed p kind payload) ws s k → ReadAt file p (chunkOf kind payload ∷ ws) s (suc k)
-unfolding positionAt
-one-on {p = p} {ws} kind payload (gives-one shown l e r) = gives-one shown (omega arith) (rw (drain-cons p kind payload ws) e) r
-one-on kind payload (gives-none e r) = gives-none (ap suc e) r
-
-read-at : {file : List ℕ} {p : Position} {v : Walk} → ReadWalk file p v → (k : ℕ) → k ≤ length (wholesOf v) → ReadAt file p (wholesOf v) (stopOf v) k
-unfolding wholesOf stopOf positionAt
-read-at (stops h r) k l = no-chunk r k l
-read-at (cut-short {missing = missing} h m r) k l =
-    let n = ne-eqb missing 0 (λ e. omega arith) in
-    rw n (no-chunk r k (rw n at l))
-read-at {p = p} (whole {kind = kind} {payload = payload} {rest = rest} h r later) zero l =
-    gives-one (shownAt p kind payload) (omega arith) (rw (drain-cons p kind payload (wholesOf rest))) r
-read-at (whole {kind = kind} {payload = payload} h r later) (suc k) l = one-on kind payload (read-at later k (le-of-suc-le-suc l))
-
--- each position is in range
-ranged : {file : List ℕ} {p : Position} {v : Walk} → ReadWalk file p v → (k : ℕ) → k ≤ length (wholesOf v) → InRange (positionAt p k (wholesOf v))
-unfolding wholesOf positionAt
-ranged {p = p} (stops h r) zero l = walked-range p (h .walked) (h .within)
-ranged {p = p} (stops h r) (suc k) l = walked-range p (h .walked) (h .within)
-ranged {p = p} (cut-short {missing = missing} h m r) zero l = walked-range p (h .walked) (omega (arith, h .within))
-ranged {p = p} (cut-short {missing = missing} h m r) (suc k) l =
-    rw (ne-eqb missing 0 (λ e. omega arith)) (walked-range p (h .walked) (omega (arith, h .within)))
-ranged {p = p} (whole h r later) zero l = walked-range p (h .walked) (omega (arith, h .within))
-ranged (whole h r later) (suc k) l = ranged later k (le-of-suc-le-suc l)
 
 -- ---- the invariant: a walker against a position of the machine and its marks
 
