@@ -184,27 +184,67 @@ fn every_cut_is_told_and_leaves_the_packets_before_it() {
     }
 }
 
+/// How many chunks end within so many bytes; and how many have a record there: a picture whose header is there, and sound with 8 bytes of its
+/// payload, have one too.
+fn within(packets: &[(u32, Vec<u8>)], len: usize) -> (usize, usize) {
+    let ends = ends(packets);
+    let whole = ends.iter().filter(|end| **end <= len).count() - 1;
+    let there = len - ends[whole];
+    let cut = match packets.get(whole) {
+        Some((0, _)) => there >= 8,
+        Some((_, data)) => there >= 8 + data.len().min(8),
+        None => false,
+    };
+    (whole, whole + usize::from(cut))
+}
+
 #[test]
 fn a_cut_recording_shows_what_it_plays() {
     let packets = packets();
     let file = write(&packets);
-    let ends = ends(&packets);
     for len in 316..=file.len() {
         let cut = &file[..len];
-        let whole = ends.iter().filter(|end| **end <= len).count() - 1;
+        let (whole, recorded) = within(&packets, len);
         let frames = packets[..whole].iter().filter(|(stream, _)| *stream == 0);
         let frames = frames.count() as u64;
         let blocks = whole as u64 - frames;
         assert_eq!(summary(cut), Ok(ChunkCounts { frames, blocks }));
-        // The index has a record more of a picture whose header is there, and of sound with 8 bytes of its payload.
-        let there = len - ends[whole];
-        let recorded = match packets.get(whole) {
-            Some((0, _)) => there >= 8,
-            Some((_, data)) => there >= 8 + data.len().min(8),
-            None => false,
-        };
         let index = ChunkIndex::build(cut).unwrap();
-        assert_eq!(index.entries().count(), whole + usize::from(recorded));
+        assert_eq!(index.entries().count(), recorded);
+    }
+}
+
+#[test]
+fn a_jump_on_a_cut_recording_shows_what_the_whole_would() {
+    let packets = packets();
+    let file = write(&packets);
+    let mut whole = AmvDemuxer::open(&file).unwrap();
+    let all = drain(&mut whole);
+    for len in 316..file.len() {
+        let (survive, recorded) = within(&packets, len);
+        let mut cut = AmvDemuxer::open(&file[..len]).unwrap();
+        let mut found_cut = false;
+        // Back and forth, over the end and to it.
+        for request in [5i64, 99, 0, 33, 3, -7, 60, 1, 46, 4, 21, 2, 61, 10, 0] {
+            for stream in [0u32, 1] {
+                let stamp = cut.seek_to(stream, request).unwrap();
+                assert_eq!(cut.is_truncated(), found_cut);
+                let reaches = |p: &Packet| p.stream_index == stream && p.pts as i64 >= request;
+                let Some(k) = all[..recorded].iter().position(reaches) else {
+                    // The end, without a look at the file.
+                    assert_eq!(cut.next_packet(), Ok(None));
+                    assert_eq!(cut.is_truncated(), found_cut);
+                    continue;
+                };
+                assert_eq!(whole.seek_to(stream, request), Ok(stamp));
+                assert_eq!((stamp, stand(&cut).0), (all[k].pts, stand(&whole).0));
+                // Where the chunk itself is cut, nothing is left.
+                assert_eq!(drain(&mut cut), all[k..survive.max(k)]);
+                assert_eq!(drain(&mut whole), all[k..]);
+                found_cut = true;
+                assert!(cut.is_truncated() && !whole.is_truncated());
+            }
+        }
     }
 }
 
