@@ -192,7 +192,9 @@ static int play(const char *name, int64_t picture)
         return 1;
     bool jumped = jump(&table, walker, picture);
     if (jumped && !walker[AMV_WALKER_END]) {
-        play_on(&r, walker, 4, true);
+        /* The index can have a record of the chunk in which the file ends, and a jump can go there. */
+        if (play_on(&r, walker, 4, true) == 0)
+            printf("  the file ends inside this picture\n");
         printf("  and %" PRIu64 " more to the end\n", play_on(&r, walker, UINT64_MAX, false));
         if (walker[AMV_WALKER_CUT])
             printf("the recording is cut: it ends before its trailer, at byte %zu\n", r.len);

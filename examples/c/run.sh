@@ -1,8 +1,8 @@
 #!/bin/sh
-# Builds the library and the two programs; records; checks and plays the recording, one that was cut, one that is damaged, and one as
-# another program would write it; prints the index of the recording; hears it, and the start of one with a block that is refused; drives a
-# reader by registers over the recording and the one that was cut, to a picture that is there and to one past the end, and over the damaged
-# one. Standard output is what expected.txt stores.
+# Builds the library and the two programs; records; checks and plays the recording, one that was cut, one that was cut inside the picture
+# that is jumped to, one that is damaged, and one as another program would write it; prints the index of the recording; hears it, and the
+# start of one with a block that is refused; drives a reader by registers over the recording and the one that was cut, to a picture that is
+# there and to one past the end, and over the damaged one. Standard output is what expected.txt stores.
 set -eu
 root=$(dirname -- "$(readlink -f -- "$0")")/../..
 root=$(readlink -f -- "$root") me=example
@@ -23,9 +23,10 @@ with_bytes() { # NAME OFFSET BYTES
 
 ./record vat.amv
 head -c 5000 vat.amv >cut.amv
+head -c 4682 vat.amv >inside.amv
 with_bytes damaged.amv 4686 'XXXX'
 with_bytes other.amv 32 '\206'
-for name in vat cut damaged other; do
+for name in vat cut inside damaged other; do
     echo
     ./panel check $name.amv || echo "(no finished recording)"
     ./panel play $name.amv 12
