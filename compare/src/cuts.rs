@@ -2,10 +2,10 @@
 //! worked out from the list of its chunks and from what the library tells of the whole file: no walk over a cut file is asked for it.
 
 use plain::words::WalkerWords;
-use plain::{AUDIO, PRELUDE, RECORD, TRAILER, VIDEO};
+use plain::{AUDIO, RECORD, VIDEO};
 
 use crate::calls::{Guarded, drain_totals, original_agrees};
-use crate::grammar::{self, Chunk};
+use crate::grammar::{self, Chunk, recorded_part};
 use crate::interface::{Interface, LIBRARY, PLAIN};
 use crate::lists::{OriginalSide, Side, WordsSide};
 use crate::random::Random;
@@ -145,11 +145,6 @@ impl<'a> Recording<'a> {
     }
 }
 
-/// How much of a chunk's payload its record asks for.
-fn recorded_part(chunk: &Chunk) -> u64 {
-    chunk.length.min(if chunk.tag == VIDEO { 0 } else { 8 })
-}
-
 /// A recording cut to n bytes: what each side tells. The cut file is a copy, so that other bytes stand after it.
 fn cut_to(tally: &mut Tally, recording: &Recording, n: u64) {
     let mut lent = Guarded::new(&recording.file[..n as usize]);
@@ -170,9 +165,10 @@ fn original_tells(tally: &mut Tally, cut: &[u8], expected: &Told) -> bool {
         let stated = rules::parse(expected.parses[strict as usize]);
         original_agrees(tally, &stated, &Some(original::parse(cut, strict)))
     });
-    let reads = reads_of(&mut OriginalSide::new(cut, &[]), expected.reads.len());
+    let mut side = OriginalSide::new(cut);
+    let reads = reads_of(&mut side, expected.reads.len());
     let records = &expected.table[..RECORD * expected.index.out[1] as usize];
-    let indexed = original::File::new(cut).records() == Ok(original::read_table(records));
+    let indexed = side.records() == Some(&original::read_table(records));
     parsed == [true, true] && reads == expected.reads && indexed
 }
 
@@ -191,12 +187,9 @@ fn about(chunk: &Chunk) -> impl Iterator<Item = u64> {
     edges.into_iter().flat_map(|edge| edge - 1..=edge + 1)
 }
 
-/// A recording whose payloads could be taken for chunks and trailers, so that some cuts of it end as a finished one does, at every length; and
-/// one with payloads whose lengths take two bytes and three, about each of its chunks.
+/// The nested recording at every length; and one with payloads whose lengths take two bytes and three, about each of its chunks.
 pub fn short(tally: &mut Tally) {
-    let inner = &files::example()[PRELUDE..].repeat(2)[..];
-    let nested = files::recording(&[(VIDEO, inner), (AUDIO, inner), (VIDEO, TRAILER)]);
-    everywhere(tally, &nested);
+    everywhere(tally, &files::nested());
     let (two, three) = (&[1; 300][..], &[2; 70_000][..]);
     let long = &files::recording(&[(AUDIO, two), (VIDEO, three), (AUDIO, three), (VIDEO, two)]);
     let long = Recording::new(tally, long);
@@ -205,16 +198,20 @@ pub fn short(tally: &mut Tally) {
     }
 }
 
-/// A recording cut inside its prelude and after it, in its trailer or just before, about one of its chunks, and not at all.
-pub fn round(tally: &mut Tally, random: &mut Random, file: &[u8]) {
-    let recording = Recording::new(tally, file);
-    let len = file.len() as u64;
+/// Lengths to cut a recording to: inside its prelude and after it, in its trailer or just before, about one of its chunks, and the whole.
+pub fn lengths(random: &mut Random, chunks: &[Chunk], len: u64) -> Vec<u64> {
     let (early, late) = (random.below(316), 316 + random.below(len - 316));
     let mut lengths = vec![early, late, len - 1 - random.below(9), len];
-    if !recording.chunks.is_empty() {
-        lengths.extend(about(&random.pick(&recording.chunks)));
+    if !chunks.is_empty() {
+        lengths.extend(about(&random.pick(chunks)).map(|n| n.min(len)));
     }
-    for n in lengths {
-        cut_to(tally, &recording, n.min(len));
+    lengths
+}
+
+/// A recording cut to telling lengths.
+pub fn round(tally: &mut Tally, random: &mut Random, file: &[u8]) {
+    let recording = Recording::new(tally, file);
+    for n in lengths(random, &recording.chunks, file.len() as u64) {
+        cut_to(tally, &recording, n);
     }
 }

@@ -50,6 +50,12 @@ pub fn shapes() -> Vec<Vec<u8>> {
     files
 }
 
+/// A recording whose payloads could be taken for chunks and trailers, so that some cuts of it end as a finished one does.
+pub fn nested() -> Vec<u8> {
+    let inner = &example()[PRELUDE..].repeat(2)[..];
+    recording(&[(VIDEO, inner), (AUDIO, inner), (VIDEO, TRAILER)])
+}
+
 pub fn push_chunk(file: &mut Vec<u8>, tag: u32, payload: &[u8]) {
     file.extend(tag.to_le_bytes());
     file.extend((payload.len() as u32).to_le_bytes());

@@ -1,10 +1,10 @@
 //! The finished recording as 01's grammar has it, and what its chunks say: this shares no walk with the plain implementation's check.
 
-use plain::{AUDIO, PRELUDE, Packet, TRAILER, VIDEO, parse_strict};
+use plain::{AUDIO, PRELUDE, Packet, Record, TRAILER, VIDEO, parse_strict};
 
 use crate::pieces;
 
-/// A chunk of a finished recording.
+/// A chunk.
 #[derive(Clone, Copy, Debug, PartialEq, Eq)]
 pub struct Chunk {
     pub tag: u32,
@@ -33,14 +33,16 @@ pub fn finished(file: &[u8]) -> Option<Vec<Chunk>> {
     Some(chunks)
 }
 
-/// The full drain, with the position before each packet: offset, frames, samples, blocks.
+/// The full drain, with the position before each packet: offset, frames, samples, blocks. The position is right for a last chunk that is cut
+/// too.
 pub fn drain(file: &[u8], chunks: &[Chunk]) -> Vec<(Packet, [u64; 4])> {
     let (mut frames, mut samples, mut blocks) = (0, 0, 0);
     let mut packets = Vec::new();
     for chunk in chunks {
         let before = [chunk.offset, frames, samples, blocks];
         let start = chunk.offset + 8;
-        let payload = &file[start as usize..(start + chunk.length) as usize];
+        let end = (start + chunk.length).min(file.len() as u64);
+        let payload = &file[start as usize..end as usize];
         let video = chunk.tag == VIDEO;
         let packet = Packet {
             stream: if video { 0 } else { 1 },
@@ -63,4 +65,59 @@ pub fn drain(file: &[u8], chunks: &[Chunk]) -> Vec<(Packet, [u64; 4])> {
 /// The count of a block by its preamble, 0 where it is too short to have one.
 fn count_of(payload: &[u8]) -> u64 {
     pieces::parse_preamble(payload).map_or(0, |(_, count, _)| count as u64)
+}
+
+/// How much of a chunk's payload its record asks for.
+pub fn recorded_part(chunk: &Chunk) -> u64 {
+    chunk.length.min(if chunk.tag == VIDEO { 0 } else { 8 })
+}
+
+/// What lists of reads and jumps meet in a file. In a finished recording packets and records are both its drain.
+#[derive(Clone, Debug, PartialEq, Eq)]
+pub struct Contents {
+    /// What reads give: the packets of the whole chunks.
+    pub packets: Vec<Packet>,
+    /// What jumps look through: the records of the whole chunks, and of the one that is cut where it has one.
+    pub records: Vec<Record>,
+    /// The offset of the trailer, none where the file ends before it.
+    pub trailer: Option<u64>,
+}
+
+impl Contents {
+    /// Of the first n bytes of a file with these chunks, and with that trailer, if it is among them. All chunks are looked at.
+    fn new(file: &[u8], chunks: &[Chunk], n: u64, trailer: Option<u64>) -> Self {
+        let drained = drain(file, chunks);
+        let there = |part: fn(&Chunk) -> u64| {
+            let all = chunks.iter().zip(&drained);
+            all.filter(move |(chunk, _)| chunk.offset + 8 + part(chunk) <= n)
+        };
+        let record = |tag, [offset, frames, samples, blocks]: [u64; 4]| Record {
+            tag,
+            offset: offset as u32,
+            frames: frames as u32,
+            blocks: blocks as u32,
+            samples,
+        };
+        Self {
+            packets: there(|chunk| chunk.length)
+                .map(|(_, (packet, _))| *packet)
+                .collect(),
+            records: there(recorded_part)
+                .map(|(chunk, (_, before))| record(chunk.tag, *before))
+                .collect(),
+            trailer,
+        }
+    }
+
+    /// Of a finished recording with these chunks, cut to n bytes: this asks no walk over the cut file.
+    pub fn cut(file: &[u8], chunks: &[Chunk], n: u64) -> Self {
+        let len = file.len() as u64;
+        Self::new(file, chunks, n, (n == len).then_some(len - 8))
+    }
+
+    /// Of a finished recording.
+    pub fn finished(file: &[u8]) -> Self {
+        let chunks = finished(file).expect("a finished recording");
+        Self::cut(file, &chunks, file.len() as u64)
+    }
 }

@@ -3,11 +3,11 @@
 //! the comparison.
 
 use plain::words::{WalkerWords, walker_words};
-use plain::{AUDIO, COUNT_LIMIT, PRELUDE, Packet, RECORD, REGISTERS, VIDEO, Walker};
+use plain::{AUDIO, COUNT_LIMIT, PRELUDE, RECORD, REGISTERS, Record, VIDEO, Walker};
 
 use crate::calls::{self, Guarded};
 use crate::files;
-use crate::grammar;
+use crate::grammar::Contents;
 use crate::interface::{LIBRARY, PLAIN};
 use crate::lists::{self, Call, Machine, OriginalSide, Side, WordsSide};
 use crate::pages;
@@ -163,7 +163,7 @@ pub fn short(tally: &mut Tally) {
 /// The index of a file that has one, else no records.
 fn index_of(file: &[u8]) -> Vec<u8> {
     let records = plain::records(file).unwrap_or_default();
-    records.iter().flat_map(plain::Record::bytes).collect()
+    records.iter().flat_map(Record::bytes).collect()
 }
 
 /// A step on a reader, which stays.
@@ -471,7 +471,7 @@ fn near_a_record(random: &mut Random, table: &[u8]) -> i64 {
     if records.is_empty() || random.once_in(3) {
         return random.word() as i64;
     }
-    let record = plain::Record::read(&random.pick(records));
+    let record = Record::read(&random.pick(records));
     let stamp = random.pick(&[u64::from(record.frames), record.samples]);
     (stamp as i64).wrapping_add(random.below(3) as i64 - 1)
 }
@@ -500,66 +500,74 @@ pub fn round(tally: &mut Tally, random: &mut Random, file: &[u8]) {
 /// A list of steps, beside the plain machine, and beside the original, whose own reads and seeks are those of the steps.
 struct Steps<'a> {
     machine: Machine<'a>,
-    original: OriginalSide<'a>,
+    original: OriginalSide,
     side: WordsSide<'a>,
 }
 
 impl Steps<'_> {
-    /// Whether a step gives the packet of both, and of a seek the original's stamp, which is the machine's at a chunk. One that is refused
-    /// and the command 0 change nothing of the walker.
+    /// Whether a step gives the packet of both, and of a seek the original's stamp, which is the machine's at a record; whether status then
+    /// has the machine's marks; and whether the walker is the original's and may be the machine's. A step that is refused changes nothing.
     fn step(&mut self, block: &mut [u8]) -> bool {
         let (walker, given) = (self.side.walker, block.to_vec());
         let said = self.side.step(block);
-        match call_of(&given) {
-            None => {
-                let refusal = refusal(&walker, &given);
-                let answer = refusal.map_or(accepted(&[]), |number| refused(number, 0));
-                let same = refusal.is_none() || *block == given;
-                said == answer && same && self.side.walker == walker
-            }
+        if let Some(number) = refusal(&walker, &given) {
+            return said == refused(number, 0) && *block == given && self.side.walker == walker;
+        }
+        let same = match call_of(&given) {
+            None => said == accepted(&[]),
             Some(Call::Read) => {
                 let read = said_read(Ok(self.machine.read()));
-                said == read && said == self.original.read() && block[5] == 0
+                said == read && said == self.original.read()
             }
             Some(Call::Seek(stream, request)) => {
                 let stamp = request_of(block) as u64;
                 let told = self.original.seek(stream, request);
                 let found = self.machine.seek(stream, request);
-                let at_chunk = found == Ok(Some(stamp)) || found == Ok(None);
-                said == accepted(&[]) && at_chunk && told == accepted(&[stamp]) && block[5] == 0
+                let at_record = found == Ok(Some(stamp)) || found == Ok(None);
+                said == accepted(&[]) && at_record && told == accepted(&[stamp])
             }
-        }
+        };
+        let [end, cut, _] = self.machine.marks();
+        let told = u64::from(block[1]) == said.out[1] | end << 1 | cut << 2 && block[5] == 0;
+        let walker = self.side.walker;
+        same && told && walker == self.original.walker() && self.machine.fits(&walker)
     }
 }
 
 /// A request at a stamp or beside it, a small one, or any.
-fn request_for(random: &mut Random, packets: &[(Packet, [u64; 4])]) -> i64 {
+fn request_for(random: &mut Random, records: &[Record]) -> i64 {
     match random.below(4) {
-        0 | 1 => lists::near_a_stamp(random, packets),
+        0 | 1 => lists::near_a_stamp(random, records).1,
         2 => random.below(6) as i64 - 2,
         _ => random.word() as i64,
     }
 }
 
-/// A list of steps on a finished recording from a fresh walker, whatever is left in the block between them.
-pub fn list(tally: &mut Tally, random: &mut Random, file: &[u8]) {
-    let chunks = grammar::finished(file).expect("a finished recording");
-    let packets = grammar::drain(file, &chunks);
-    let records = plain::records(file).unwrap();
+/// A list of steps on a finished recording.
+pub fn finished(tally: &mut Tally, random: &mut Random, file: &[u8]) {
+    let names = ["register steps on plain", "register steps on library"];
+    list(tally, random, names, file, &Contents::finished(file));
+}
+
+/// A list of steps on a file with these contents from a fresh walker, whatever is left in the block between them.
+pub fn list(
+    tally: &mut Tally,
+    random: &mut Random,
+    names: [&'static str; 2],
+    file: &[u8],
+    contents: &Contents,
+) {
     let (seed, count) = (random.next(), random.size(16));
-    for (name, interface) in [
-        ("register steps on plain", PLAIN),
-        ("register steps on library", LIBRARY),
-    ] {
+    for (name, interface) in names.into_iter().zip([PLAIN, LIBRARY]) {
         let mut random = Random(seed);
         let mut block = Vec::new();
         let mut steps = Steps {
-            machine: Machine::new(&packets),
-            original: OriginalSide::new(file, &records),
-            side: WordsSide::new(interface, file, records.len()),
+            machine: Machine::new(contents),
+            original: OriginalSide::new(file),
+            side: WordsSide::new(interface, file, contents.records.len()),
         };
         for i in 0..count {
-            let request = request_for(&mut random, &packets);
+            let request = request_for(&mut random, &contents.records);
             leave(&mut random, &mut block, request);
             let given = block.clone();
             let same = steps.step(&mut block);
@@ -568,7 +576,8 @@ pub fn list(tally: &mut Tally, random: &mut Random, file: &[u8]) {
                 format!("step {i} from {given} to {left} on {}", hex(file))
             });
         }
-        let same = lists::ends_same(&mut steps.machine, &mut steps.side);
+        let indexed = steps.side.records() == Some(&contents.records);
+        let same = indexed && lists::ends_same(&mut steps.machine, &mut steps.side);
         tally.judge(name, same, || {
             format!("what is left after {count} steps on {}", hex(file))
         });

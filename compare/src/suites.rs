@@ -167,7 +167,7 @@ pub fn round(tally: &mut Tally, random: &mut Random) {
     let file = files::finished(random);
     whole_file(tally, &file, RECORD);
     lists::reads_and_seeks(tally, random, &file);
-    registers::list(tally, random, &file);
+    registers::finished(tally, random, &file);
     pages::of_recording(tally, &file);
     cuts::round(tally, random, &file);
 }
