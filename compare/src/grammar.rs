@@ -1,4 +1,5 @@
-//! The finished recording as 01's grammar has it, and what its chunks say: this shares no walk with the plain implementation's check.
+//! The finished recording as 01's grammar has it, the chunks of any other file, and what they say: this shares no walk with the plain
+//! implementation's check, reads and index.
 
 use plain::{AUDIO, PRELUDE, Packet, Record, TRAILER, VIDEO, parse_strict};
 
@@ -31,6 +32,43 @@ pub fn finished(file: &[u8]) -> Option<Vec<Chunk>> {
         rest = rest.get(8..)?.get(length as usize..)?;
     }
     Some(chunks)
+}
+
+/// Where the walk over a file stops.
+enum Stop {
+    /// The file runs out: fewer than 8 bytes are left, or the last chunk is cut.
+    Short,
+    /// The offset of the trailer.
+    Trailer(u64),
+    /// The offset of a tag that is neither of the two.
+    Unknown(u64),
+}
+
+/// The chunks that stand in any file from 316 on (docs/FORMAT.md, 1 and 6), of which the last may be cut, and where their walk stops.
+fn walk(file: &[u8]) -> (Vec<Chunk>, Stop) {
+    let mut chunks = Vec::new();
+    let mut offset = PRELUDE as u64;
+    loop {
+        let rest = file.get(offset as usize..).unwrap_or_default();
+        let Some(header) = rest.first_chunk::<8>() else {
+            return (chunks, Stop::Short);
+        };
+        if header == TRAILER {
+            return (chunks, Stop::Trailer(offset));
+        }
+        let halves = [header.first_chunk(), header.last_chunk()];
+        let [tag, length] = halves.map(|half| u32::from_le_bytes(*half.unwrap()));
+        if tag != VIDEO && tag != AUDIO {
+            return (chunks, Stop::Unknown(offset));
+        }
+        let length = u64::from(length);
+        chunks.push(Chunk {
+            tag,
+            offset,
+            length,
+        });
+        offset += 8 + length;
+    }
 }
 
 /// The full drain, with the position before each packet: offset, frames, samples, blocks. The position is right for a last chunk that is cut
@@ -119,5 +157,17 @@ impl Contents {
     pub fn finished(file: &[u8]) -> Self {
         let chunks = finished(file).expect("a finished recording");
         Self::cut(file, &chunks, file.len() as u64)
+    }
+
+    /// Of the part of any file that has an index: all of it, or the bytes before an unknown tag.
+    pub fn indexed(file: &[u8]) -> (&[u8], Self) {
+        let (chunks, stop) = walk(file);
+        let (part, trailer) = match stop {
+            Stop::Short => (file, None),
+            Stop::Trailer(offset) => (file, Some(offset)),
+            Stop::Unknown(offset) => (&file[..offset as usize], None),
+        };
+        let contents = Self::new(part, &chunks, part.len() as u64, trailer);
+        (part, contents)
     }
 }

@@ -4,7 +4,10 @@
 use plain::words::{WalkerWords, walker_words, writer_words};
 use plain::{FILE_LIMIT as LIMIT, PRELUDE, REGISTERS, TRAILER, VIDEO, Walker, Writer};
 
+use crate::grammar::Contents;
 use crate::interface::{Interface, LIBRARY, PLAIN};
+use crate::jumps;
+use crate::lists::{self, WordsSide};
 use crate::rules;
 use crate::said::{Said, Write, accepted, refused};
 use crate::tally::Tally;
@@ -27,6 +30,7 @@ pub fn suite(tally: &mut Tally) {
     within(tally, &file[..LIMIT]);
     beyond(tally, &file);
     long_payload(tally, &file);
+    lists_within(tally, &mut file[..LIMIT]);
     writes(tally, &mut file);
     pages(tally, &mut file);
     long_registers(tally, &mut file);
@@ -92,6 +96,22 @@ fn within(tally: &mut Tally, file: &[u8]) {
         let [plain, library] = [PLAIN, LIBRARY].map(|side| (side.check(cut), side.summary(cut)));
         let expected = (refused(60, place), accepted(&[frames, 0]));
         judge(tally, "check", expected, plain, library);
+    }
+}
+
+/// A list on a file of the limit whose second frame has its last 12 bytes, and is cut.
+fn lists_within(tally: &mut Tally, file: &mut [u8]) {
+    let second = LIMIT - 20;
+    for (offset, length) in [(PRELUDE, second - PRELUDE - 8), (second, 13)] {
+        file[offset..offset + 4].copy_from_slice(&VIDEO.to_le_bytes());
+        file[offset + 4..offset + 8].copy_from_slice(&(length as u32).to_le_bytes());
+    }
+    let (_, contents) = Contents::indexed(file);
+    let list = jumps::telling_list(&contents.records);
+    for (name, interface) in [(jumps::ANY[0], PLAIN), (jumps::ANY[2], LIBRARY)] {
+        let mut side = WordsSide::new(interface, file, 2);
+        let differs = lists::differs(&contents, &list, &mut side);
+        tally.equal(name, None, differs, || format!("{list:?} at the limit"));
     }
 }
 

@@ -12,6 +12,7 @@ mod cuts;
 mod files;
 mod grammar;
 mod interface;
+mod jumps;
 mod large;
 mod lent;
 mod listing;

@@ -6,6 +6,7 @@ use plain::{AUDIO, PRELUDE, RECORD, Record, VIDEO, Walker, Writer};
 use crate::calls::{self, Guarded};
 use crate::cuts;
 use crate::files;
+use crate::jumps;
 use crate::lists;
 use crate::original;
 use crate::pages;
@@ -17,7 +18,7 @@ use crate::seeks;
 use crate::sounds;
 use crate::tally::Tally;
 
-/// Everything that reads a file: both parses, the check, the summary, the index, and reads until the end.
+/// Everything that reads a file: both parses, the check, the summary, the index, reads until the end, and a list of reads and jumps.
 pub fn whole_file(tally: &mut Tally, bytes: &[u8], table_slack: usize) {
     let mut lent = Guarded::new(bytes);
     let file = &*lent.lent();
@@ -46,6 +47,7 @@ pub fn movi(tally: &mut Tally, file: &[u8], table_slack: usize) {
     }
     // Once more at the end.
     calls::next_packet(tally, &mut original, file, &mut walker);
+    jumps::any_file(tally, file);
 }
 
 /// The short inputs, in full.
@@ -57,6 +59,7 @@ pub fn exhaustive(tally: &mut Tally, random: &mut Random) {
     pages::short(tally);
     sounds::short(tally);
     cuts::short(tally);
+    jumps::short(tally, random);
     for _ in 0..20 {
         pieces::bodies(tally, random);
     }
@@ -160,6 +163,7 @@ pub fn round(tally: &mut Tally, random: &mut Random) {
     walkers(tally, random, &file);
     tables(tally, random);
     registers::round(tally, random, &file);
+    jumps::round(tally, random, &file);
     pages::round(tally, random);
     sounds::round(tally, random);
     writers(tally, random);
@@ -170,6 +174,7 @@ pub fn round(tally: &mut Tally, random: &mut Random) {
     registers::finished(tally, random, &file);
     pages::of_recording(tally, &file);
     cuts::round(tally, random, &file);
+    jumps::cut_round(tally, random, &file);
 }
 
 /// Mostly paired, so that long lists pass or fail late.
