@@ -21,8 +21,8 @@
  * packets whose chunk ends within the cut, each as in the whole recording, then End, with cut set; amv_check gives 60 at the first chunk that is
  * lost. Below 316 bytes, AMV_PRELUDE_LEN, amv_parse and amv_check give 11. And of every list of reads and jumps, in whatever order, with the file's
  * own index: every packet is one of the whole recording, and a jump to a chunk that is there answers the stamp, leaves the cursor and the counts and
- * plays on with the packets that it would have in the whole recording, as far as the file has them. So of every file that amv_build_chunk_index
- * accepts, finished, cut or with bytes after its trailer: after any run of jumps, sound and clock belong to that picture.
+ * plays on with the packets that it would have in the whole recording, as far as the file has them. Of every file that amv_build_chunk_index accepts,
+ * finished, cut or with bytes after its trailer: after any run of jumps, sound and clock belong to that picture.
  */
 #ifndef AMV_H
 #define AMV_H
