@@ -14,8 +14,7 @@
  * A refused call changes nothing but `out`: no word of a state, no byte of a table or buffer, no sample.
  *
  * Buffers. A buffer of length 0 may be NULL. Byte buffers need no alignment. No two buffers, states or outs of a call overlap. Lengths are in
- * bytes, but for amv_validate_movi_interleave, where they are in tags, and for samples_len of amv_decode_block, which is in samples. A file is
- * lent whole, and so is the buffer that a writer fills: each may be a mapping (mmap), and then need not fit into memory.
+ * bytes, but for amv_validate_movi_interleave, where they are in tags, and for samples_len of amv_decode_block, which is in samples.
  *
  * Cut. A file is cut where it ends before its trailer, at a chunk or inside one: the supply dropped while it was written. What stands before
  * can be read, indexed and jumped to. Of every finished recording, cut to any length, it is proved: reads from a fresh walker give exactly the
@@ -39,13 +38,12 @@ extern "C" {
 /* The version of this header and its library: a change of what a call answers, of a state's words or of a record's bytes moves the second
  * number while the first is 0, and an addition the third. */
 #define AMV_VERSION_MAJOR 0
-#define AMV_VERSION_MINOR 5
-#define AMV_VERSION_PATCH 0
-#define AMV_VERSION "0.5.0"
+#define AMV_VERSION_MINOR 4
+#define AMV_VERSION_PATCH 1
+#define AMV_VERSION "0.4.1"
 
-/* A file's longest length in bytes, 16 GiB; the bytes of a prelude, at whose end the first chunk stands. Before version 0.5 the limit was
- * 4294967295: an offset in a file can now need more than 32 bits, and a caller that keeps one keeps 64. */
-#define AMV_FILE_LIMIT 17179869184
+/* A file's longest length in bytes; the bytes of a prelude, at whose end the first chunk stands. */
+#define AMV_FILE_LIMIT 4294967295
 #define AMV_PRELUDE_LEN 316
 
 /* The longest run length in seconds, 255 h 59 min 59 s: what a longer recording has too. */
@@ -147,15 +145,9 @@ enum {
 };
 uint32_t amv_next_packet(const uint8_t *file, size_t len, uint64_t walker[AMV_WALKER_WORDS], uint64_t out[AMV_PACKET_WORDS]);
 
-/* The index of a file, a record of AMV_ENTRY_LEN bytes for each chunk, into a table: tag (4 bytes), offset (8), frames before (4), blocks
+/* The index of a file, a record of AMV_ENTRY_LEN bytes for each chunk, into a table: tag (4 bytes), offset (4), frames before (4), blocks
  * before (4), samples before (8), little-endian. Bytes after the last record stay as they are. A table of (len / 8) * AMV_ENTRY_LEN bytes is
- * always enough; of a long file that is much, and amv_summary says what it needs. out: place, the number of records. Refuses with 10, 31 and 40.
- *
- * A table has no header: it is its records, one after another, and nothing in it says how wide they are. Whoever stores tables must know it of each:
- * a record has 28 bytes, AMV_ENTRY_LEN, from version 0.5 on, and had 24, AMV_OLD_ENTRY_LEN, before, when its offset had 4. To go over, widen each old
- * table once (amv_widen_index), or build it anew from its file. All other calls read every table as records of 28. It is proved
- * that an old index that has records is refused by a jump and by the page: with 41, or with 43 where their number is a multiple of 7. That is not a
- * check of the width: one that is damaged could pass.
+ * always enough. out: place, the number of records. Refuses with 10, 31 and 40.
  *
  * A file that is refused with 31 at p has something other than a chunk at offset p, as a damaged one can, and one of FFmpeg's, which puts a zero byte
  * before the trailer where the last chunk ends at an odd offset. Its first p bytes have an index, a record for each chunk before p, each of which is
@@ -164,20 +156,19 @@ uint32_t amv_next_packet(const uint8_t *file, size_t len, uint64_t walker[AMV_WA
 enum {
     AMV_ENTRY_TAG = 0,
     AMV_ENTRY_OFFSET = 4,
-    AMV_ENTRY_FRAMES = 12,
-    AMV_ENTRY_BLOCKS = 16,
-    AMV_ENTRY_SAMPLES = 20,
-    AMV_ENTRY_LEN = 28,
-    AMV_OLD_ENTRY_LEN = 24
+    AMV_ENTRY_FRAMES = 8,
+    AMV_ENTRY_BLOCKS = 12,
+    AMV_ENTRY_SAMPLES = 16,
+    AMV_ENTRY_LEN = 24
 };
 enum { AMV_INDEX_COUNT = 1, AMV_INDEX_WORDS };
 uint32_t amv_build_chunk_index(const uint8_t *file, size_t len, uint8_t *table, size_t table_len, uint64_t out[AMV_INDEX_WORDS]);
 
 /* A jump: the walker goes to the first chunk of the stream whose stamp is the request or later, and its counts are those of that chunk, so
  * sound and clock belong to the picture. Where there is none, the walker stands at the end: its end is 1. Cut and trailer stay as they
- * are. The table is the records of amv_build_chunk_index or amv_widen_index and nothing after them: table_len is AMV_ENTRY_LEN times their
- * number. out: place, the stream's stamp where the walker stands. Refuses with 1, 42, 41, 43 and 32, in this order: a stream that does not exist
- * is told whatever the table is.
+ * are. The table is the records of amv_build_chunk_index and nothing after them: table_len is AMV_ENTRY_LEN times their number. out: place,
+ * the stream's stamp where the walker stands. Refuses with 1, 42, 41, 43 and 32, in this order: a stream that does not exist is told whatever
+ * the table is.
  *
  * The last record can be of the chunk in which a file ends. A jump goes there as to any other and answers its stamp, and the read that follows gives
  * End, with cut. A jump to the end does not look at the file: after it a read gives End, and cut and trailer are what reads before it found. */
@@ -231,25 +222,13 @@ enum {
  * number in the register refusal, and walker and request stay as they are. */
 uint32_t amv_register_step(const uint8_t *file, size_t len, const uint8_t *table, size_t table_len, uint64_t walker[AMV_WALKER_WORDS], uint8_t *block, size_t block_len, uint64_t out[AMV_PACKET_WORDS]);
 
-/* A table of before version 0.5 to one of now: the records of old, of AMV_OLD_ENTRY_LEN bytes, into a table as records of AMV_ENTRY_LEN bytes, in
- * the same order, each field with the number that it had. Bytes after the last record stay as they are. old_len is AMV_OLD_ENTRY_LEN times the
- * number of records, and a table of old_len / AMV_OLD_ENTRY_LEN * AMV_ENTRY_LEN bytes is always enough. out: place, the number of records. Refuses
- * with 41, asked in records of AMV_OLD_ENTRY_LEN bytes, and 40. Nothing is asked about tags, samples and offsets: a jump asks.
- *
- * Of every file of at most 4294967295 bytes that has an index it is proved: its old index, widened, is what amv_build_chunk_index gives now. So no
- * file need be walked again. Widen an index once, and keep the outcome. Given a second time it is refused with 41, or, where it has 6 records or a
- * multiple of 6, it is taken for an old one, and a jump by what comes out is refused with 43. */
-enum { AMV_WIDEN_COUNT = 1, AMV_WIDEN_WORDS };
-uint32_t amv_widen_index(const uint8_t *old, size_t old_len, uint8_t *table, size_t table_len, uint64_t out[AMV_WIDEN_WORDS]);
-
 /* The page of an index for a strip printer: a line of AMV_PAGE_COLUMNS bytes of ASCII for each record, one after another, without line ends.
- * Bytes after the last line stay as they are. The table is that of a jump. A page of table_len / AMV_ENTRY_LEN * AMV_PAGE_COLUMNS bytes is
- * always enough. out: place, the number of lines. Refuses with 41, 43, 70, 76 and 40, in this order: each is asked of all records before the next.
+ * Bytes after the last line stay as they are. The table is the records of amv_build_chunk_index and nothing after them, as for a jump. A page
+ * of table_len / AMV_ENTRY_LEN * AMV_PAGE_COLUMNS bytes is always enough. out: place, the number of lines. Refuses with 41, 43, 70 and 40.
  *
  * A line has in column 1 V for a picture or A for sound, in 2 to 11 the chunk's offset, in 12 to 21 the frames before it, in 22 to 40 the
  * samples before it. A number is decimal, at the right of its columns, with spaces left of it; column 22 is always a space. Blocks are not
- * printed. The names AMV_LINE_.. are where these columns start in a line, counted from 0; each end where the next start. An offset of 11 digits
- * has no room in its columns, and is refused with 76: the records before it have a page, of the first out[AMV_PLACE] bytes of the table. */
+ * printed. The names AMV_LINE_.. are where these columns start in a line, counted from 0; each end where the next start. */
 enum {
     AMV_LINE_KIND = 0,
     AMV_LINE_OFFSET = 1,
@@ -328,7 +307,7 @@ uint32_t amv_from_frame_count(uint64_t frames, uint32_t fps);
         "Is each word of the state in its field's range: marks 0 or 1, width, height, fps and rate within 32 bits, channels within 16?", \
         "0") \
     /* the file */ \
-    ROW(10, AMV_ERROR_FILE_TOO_LONG, "Has the file at most 17,179,869,184 bytes?", "0") \
+    ROW(10, AMV_ERROR_FILE_TOO_LONG, "Has the file at most 4,294,967,295 bytes?", "0") \
     /* the prelude */ \
     ROW(11, AMV_ERROR_PRELUDE_CUT, "Does the file reach the end of this tag, size or body of the prelude?", "its start") \
     ROW(12, AMV_ERROR_WRONG_TAG, "Is the tag the one that belongs here?", "its start") \
@@ -354,11 +333,9 @@ uint32_t amv_from_frame_count(uint64_t frames, uint32_t fps);
     ROW(31, AMV_ERROR_UNKNOWN_TAG, "Is the tag 00dc or 01wb, a picture's or sound's?", "the chunk's offset") \
     ROW(32, AMV_ERROR_STATE_OUT_OF_RANGE, "Are cursor, frames, samples and blocks each at most 2^62?", "0") \
     ROW(40, AMV_ERROR_TABLE_TOO_SHORT, "Does the table hold all records, or the page all lines?", "0") \
-    ROW(41, AMV_ERROR_TABLE_RAGGED, "Is the table whole records: of 28 bytes, or of 24 if it is to be widened?", "0") \
+    ROW(41, AMV_ERROR_TABLE_RAGGED, "Is the table whole records of 24 bytes?", "0") \
     ROW(42, AMV_ERROR_NO_SUCH_STREAM, "Is the stream of the jump 0 or 1?", "0") \
-    ROW(43, AMV_ERROR_BAD_RECORD, \
-        "Has the record a known tag, fewer than 2^62 samples before it, and an offset of at most 17,179,869,184?", \
-        "the record's start in the table") \
+    ROW(43, AMV_ERROR_BAD_RECORD, "Has the record a known tag, and fewer than 2^62 samples before it?", "the record's start in the table") \
     /* writing */ \
     ROW(50, AMV_ERROR_ALREADY_BEGUN, "Header: has the writer not begun?", "bytes written") \
     ROW(51, AMV_ERROR_NOT_BEGUN, "Packet and trailer: has the writer begun?", "bytes written") \
@@ -383,10 +360,7 @@ uint32_t amv_from_frame_count(uint64_t frames, uint32_t fps);
     ROW(73, AMV_ERROR_SAMPLE_BUFFER_TOO_SHORT, "Does the buffer hold all samples of the block?", "0") \
     /* the register block */ \
     ROW(74, AMV_ERROR_WRONG_REGISTER_BLOCK, "Has the register block 16 bytes?", "0") \
-    ROW(75, AMV_ERROR_UNKNOWN_COMMAND, "Is the command 0, 1, 2 or 3?", "0") \
-    /* the page again */ \
-    ROW(76, AMV_ERROR_OFFSET_TOO_WIDE, "Is the record's offset at most 9,999,999,999, so that it has at most 10 digits?", \
-        "the record's start in the table")
+    ROW(75, AMV_ERROR_UNKNOWN_COMMAND, "Is the command 0, 1, 2 or 3?", "0")
 
 #define AMV_NUMBER_OF(number, name, question, place) name = number,
 enum { AMV_REFUSALS(AMV_NUMBER_OF) };

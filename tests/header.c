@@ -149,7 +149,7 @@ static void index_and_jump(void)
     const uint8_t *last = table + 2 * AMV_ENTRY_LEN;
     EXPECT(AMV_VIDEO_CHUNK_TAG, get(table + AMV_ENTRY_LEN + AMV_ENTRY_TAG, 4));
     EXPECT(AMV_AUDIO_CHUNK_TAG, get(last + AMV_ENTRY_TAG, 4));
-    EXPECT(316 + 18 + 11, get(last + AMV_ENTRY_OFFSET, 8));
+    EXPECT(316 + 18 + 11, get(last + AMV_ENTRY_OFFSET, 4));
     EXPECT(1, get(last + AMV_ENTRY_FRAMES, 4));
     EXPECT(1, get(last + AMV_ENTRY_BLOCKS, 4));
     EXPECT(0, get(table + AMV_ENTRY_LEN + AMV_ENTRY_FRAMES, 4));
@@ -187,131 +187,6 @@ static void index_and_jump(void)
     EXPECT(316 + 18 + 11, out[AMV_PLACE]);
     EXPECT(AMV_OK, amv_build_chunk_index(damaged, (size_t)out[AMV_PLACE], table, sizeof table, out));
     EXPECT(2, out[AMV_INDEX_COUNT]);
-}
-
-/* A record of a picture with that offset, and with bytes that are like no others in the other fields. */
-static void put_entry(uint8_t entry[AMV_ENTRY_LEN], uint64_t offset)
-{
-    put(entry + AMV_ENTRY_TAG, AMV_VIDEO_CHUNK_TAG, 4);
-    put(entry + AMV_ENTRY_OFFSET, offset, 8);
-    put(entry + AMV_ENTRY_FRAMES, 0x94939291, 4);
-    put(entry + AMV_ENTRY_BLOCKS, 0xA4A3A2A1, 4);
-    put(entry + AMV_ENTRY_SAMPLES, 0x0807060504030201, 8);
-}
-
-/* A jump to the second of two such records, the first being sound's, from a fresh walker, which is left as it was where the call is refused. */
-static uint32_t jump_to(uint64_t offset, uint64_t walker[AMV_WALKER_WORDS], uint64_t out[AMV_SEEK_WORDS])
-{
-    const uint64_t fresh[AMV_WALKER_WORDS] = AMV_FRESH_WALKER;
-    uint8_t table[2 * AMV_ENTRY_LEN];
-    put_entry(table, AMV_FILE_LIMIT);
-    put(table + AMV_ENTRY_TAG, AMV_AUDIO_CHUNK_TAG, 4);
-    put_entry(table + AMV_ENTRY_LEN, offset);
-    memcpy(walker, fresh, sizeof fresh);
-    memset(out, 7, AMV_SEEK_WORDS * sizeof *out);
-    uint32_t number = amv_seek_to_via_index(table, sizeof table, walker, AMV_STREAM_VIDEO, INT64_MIN, out);
-    if (number != AMV_OK) {
-        EXPECT(0, memcmp(fresh, walker, sizeof fresh));
-        EXPECT(0, out[AMV_SEEK_STAMP]);
-    }
-    return number;
-}
-
-/* Every byte of a record's offset counts. Up to the limit a jump goes there, and past it the record is refused. */
-static void far_jumps(void)
-{
-    uint64_t walker[AMV_WALKER_WORDS], out[AMV_SEEK_WORDS];
-    EXPECT(AMV_OK, jump_to(0x0305040302, walker, out));
-    EXPECT(0, out[AMV_PLACE]);
-    EXPECT(0x94939291, out[AMV_SEEK_STAMP]);
-    EXPECT(0x0305040302, walker[AMV_WALKER_CURSOR]);
-    EXPECT(0x94939291, walker[AMV_WALKER_FRAMES]);
-    EXPECT(0x0807060504030201, walker[AMV_WALKER_SAMPLES]);
-    EXPECT(0xA4A3A2A1, walker[AMV_WALKER_BLOCKS]);
-    EXPECT(0, walker[AMV_WALKER_END]);
-    for (int byte = 0; byte < 8; byte++) {
-        uint64_t offset = (uint64_t)(byte + 1) << 8 * byte;
-        if (offset <= AMV_FILE_LIMIT) {
-            EXPECT(AMV_OK, jump_to(offset, walker, out));
-            EXPECT(offset, walker[AMV_WALKER_CURSOR]);
-        } else {
-            EXPECT(AMV_ERROR_BAD_RECORD, jump_to(offset, walker, out));
-            EXPECT(AMV_ENTRY_LEN, out[AMV_PLACE]);
-        }
-    }
-    EXPECT(AMV_OK, jump_to(AMV_FILE_LIMIT, walker, out));
-    EXPECT(AMV_FILE_LIMIT, walker[AMV_WALKER_CURSOR]);
-    EXPECT(AMV_ERROR_BAD_RECORD, jump_to((uint64_t)AMV_FILE_LIMIT + 1, walker, out));
-    EXPECT(AMV_ERROR_BAD_RECORD, jump_to(0x0102030405060708, walker, out));
-    EXPECT(AMV_ERROR_BAD_RECORD, jump_to(UINT64_MAX, walker, out));
-}
-
-/* An old table of two records, and what it is widened to. */
-enum { OLD_TABLE = 2 * AMV_OLD_ENTRY_LEN, WIDE_TABLE = 2 * AMV_ENTRY_LEN };
-
-/* Widens to a table of that length, which is left as it was where the call is refused; a byte after it is always left. */
-static uint32_t widen_to(uint8_t table[WIDE_TABLE + 1], const uint8_t *old, size_t old_len, size_t table_len, uint64_t out[AMV_WIDEN_WORDS])
-{
-    uint8_t before[WIDE_TABLE + 1];
-    memset(before, 0xEE, sizeof before);
-    memset(table, 0xEE, sizeof before);
-    memset(out, 7, AMV_WIDEN_WORDS * sizeof *out);
-    uint32_t number = amv_widen_index(old, old_len, table, table_len, out);
-    EXPECT(0, out[AMV_PLACE]);
-    EXPECT(0xEE, table[table_len]);
-    if (number != AMV_OK) {
-        EXPECT(0, out[AMV_WIDEN_COUNT]);
-        EXPECT(0, memcmp(table, before, sizeof before));
-    }
-    return number;
-}
-
-static void widen_index(void)
-{
-    uint8_t old[OLD_TABLE], table[WIDE_TABLE + 1];
-    uint64_t out[AMV_WIDEN_WORDS];
-    for (int i = 0; i < OLD_TABLE; i++)
-        old[i] = (uint8_t)(0xF0 - i);
-    /* Each byte of the old records is another one, and no tag is known: nothing is asked about the records. */
-    EXPECT(AMV_OK, widen_to(table, old, sizeof old, WIDE_TABLE, out));
-    EXPECT(2, out[AMV_WIDEN_COUNT]);
-    for (int i = 0; i < 2; i++) {
-        const uint8_t *wide = table + AMV_ENTRY_LEN * i, *narrow = old + AMV_OLD_ENTRY_LEN * i;
-        EXPECT(get(narrow, 4), get(wide + AMV_ENTRY_TAG, 4));
-        EXPECT(get(narrow + 4, 4), get(wide + AMV_ENTRY_OFFSET, 8));
-        EXPECT(get(narrow + 8, 4), get(wide + AMV_ENTRY_FRAMES, 4));
-        EXPECT(get(narrow + 12, 4), get(wide + AMV_ENTRY_BLOCKS, 4));
-        EXPECT(get(narrow + 16, 8), get(wide + AMV_ENTRY_SAMPLES, 8));
-    }
-    /* Later bytes stay, and no records need no table. */
-    EXPECT(AMV_OK, widen_to(table, old, AMV_OLD_ENTRY_LEN, WIDE_TABLE, out));
-    EXPECT(1, out[AMV_WIDEN_COUNT]);
-    for (int i = AMV_ENTRY_LEN; i < WIDE_TABLE; i++)
-        EXPECT(0xEE, table[i]);
-    EXPECT(AMV_OK, amv_widen_index(NULL, 0, NULL, 0, out));
-    EXPECT(0, out[AMV_WIDEN_COUNT]);
-    /* A length that is none of 24s comes before a table that is too short, which is asked in 28s. */
-    EXPECT(AMV_ERROR_TABLE_RAGGED, widen_to(table, old, sizeof old - 1, WIDE_TABLE, out));
-    EXPECT(AMV_ERROR_TABLE_RAGGED, widen_to(table, old, AMV_ENTRY_LEN, 0, out));
-    EXPECT(AMV_ERROR_TABLE_TOO_SHORT, widen_to(table, old, sizeof old, WIDE_TABLE - 1, out));
-    EXPECT(AMV_ERROR_TABLE_TOO_SHORT, widen_to(table, old, sizeof old, OLD_TABLE, out));
-    EXPECT(AMV_ERROR_TABLE_TOO_SHORT, widen_to(table, old, AMV_OLD_ENTRY_LEN, 0, out));
-}
-
-/* The index of the file as it was stored before version 0.5 is refused as it is, and widened it is the index that is built. */
-static void widen_built(void)
-{
-    uint8_t old[3 * AMV_OLD_ENTRY_LEN], built[3 * AMV_ENTRY_LEN], table[3 * AMV_ENTRY_LEN];
-    uint64_t out[AMV_INDEX_WORDS], walker[AMV_WALKER_WORDS] = AMV_FRESH_WALKER, sought[AMV_SEEK_WORDS];
-    EXPECT(AMV_OK, amv_build_chunk_index(file, len, built, sizeof built, out));
-    for (int i = 0; i < 3; i++) {
-        memcpy(old + AMV_OLD_ENTRY_LEN * i, built + AMV_ENTRY_LEN * i, 8);
-        memcpy(old + AMV_OLD_ENTRY_LEN * i + 8, built + AMV_ENTRY_LEN * i + 12, 16);
-    }
-    EXPECT(AMV_ERROR_TABLE_RAGGED, amv_seek_to_via_index(old, sizeof old, walker, AMV_STREAM_VIDEO, 0, sought));
-    EXPECT(AMV_OK, amv_widen_index(old, sizeof old, table, sizeof table, out));
-    EXPECT(3, out[AMV_WIDEN_COUNT]);
-    EXPECT(0, memcmp(built, table, sizeof built));
 }
 
 /* Bits of a register that are none of status: one that is enabled, two that are pending, and of these one that is acknowledged. */
@@ -488,36 +363,21 @@ static void print_index(void)
     EXPECT(AMV_ERROR_TABLE_RAGGED, print_to(page, table, sizeof table - 1, FULL_PAGE, out));
     EXPECT(0, out[AMV_PLACE]);
     /* The greatest numbers that a line shows: they fill their columns, but for column 22. */
-    put(table + AMV_ENTRY_LEN + AMV_ENTRY_OFFSET, 9999999999, 8);
+    put(table + AMV_ENTRY_LEN + AMV_ENTRY_OFFSET, 4294967295, 4);
     put(table + AMV_ENTRY_LEN + AMV_ENTRY_FRAMES, 4294967294, 4);
     put(table + AMV_ENTRY_LEN + AMV_ENTRY_SAMPLES, 999999999999999999, 8);
     EXPECT(AMV_OK, print_to(page, table, sizeof table, FULL_PAGE, out));
-    EXPECT(9999999999, number_in(second, AMV_LINE_OFFSET, AMV_LINE_FRAMES));
+    EXPECT(4294967295, number_in(second, AMV_LINE_OFFSET, AMV_LINE_FRAMES));
     EXPECT(4294967294, number_in(second, AMV_LINE_FRAMES, AMV_LINE_SAMPLES));
     EXPECT(' ', second[AMV_LINE_SAMPLES]);
     EXPECT(999999999999999999, number_in(second, AMV_LINE_SAMPLES, AMV_PAGE_COLUMNS));
-    /* An offset of 11 digits comes before a page that is too short; the records before it have a page. */
-    put(table + AMV_ENTRY_LEN + AMV_ENTRY_OFFSET, 10000000000, 8);
-    EXPECT(AMV_ERROR_OFFSET_TOO_WIDE, print_to(page, table, sizeof table, FULL_PAGE - 1, out));
-    EXPECT(AMV_ENTRY_LEN, out[AMV_PLACE]);
-    EXPECT(AMV_OK, print_to(page, table, (size_t)out[AMV_PLACE], FULL_PAGE, out));
-    EXPECT(1, out[AMV_PAGE_LINES]);
-    /* So does the limit, and the first of two such records is told. */
-    put(table + AMV_ENTRY_LEN + AMV_ENTRY_OFFSET, AMV_FILE_LIMIT, 8);
-    put(table + 2 * AMV_ENTRY_LEN + AMV_ENTRY_OFFSET, 10000000000, 8);
-    EXPECT(AMV_ERROR_OFFSET_TOO_WIDE, print_to(page, table, sizeof table, FULL_PAGE - 1, out));
-    EXPECT(AMV_ENTRY_LEN, out[AMV_PLACE]);
-    /* A sample too many comes before such an offset, also of an earlier record. */
-    put(table + 2 * AMV_ENTRY_LEN + AMV_ENTRY_SAMPLES, 1000000000000000000, 8);
+    /* A sample more comes before a page that is too short, and after a bad record anywhere. */
+    put(table + AMV_ENTRY_LEN + AMV_ENTRY_SAMPLES, 1000000000000000000, 8);
     EXPECT(AMV_ERROR_SAMPLES_TOO_WIDE, print_to(page, table, sizeof table, FULL_PAGE - 1, out));
-    EXPECT(2 * AMV_ENTRY_LEN, out[AMV_PLACE]);
-    /* A bad record anywhere comes before both, by its offset or by its tag. */
-    put(table + 2 * AMV_ENTRY_LEN + AMV_ENTRY_OFFSET, (uint64_t)AMV_FILE_LIMIT + 1, 8);
-    EXPECT(AMV_ERROR_BAD_RECORD, print_to(page, table, sizeof table, FULL_PAGE - 1, out));
-    EXPECT(2 * AMV_ENTRY_LEN, out[AMV_PLACE]);
-    table[AMV_ENTRY_LEN + AMV_ENTRY_TAG] = 'X';
-    EXPECT(AMV_ERROR_BAD_RECORD, print_to(page, table, sizeof table, FULL_PAGE, out));
     EXPECT(AMV_ENTRY_LEN, out[AMV_PLACE]);
+    table[2 * AMV_ENTRY_LEN + AMV_ENTRY_TAG] = 'X';
+    EXPECT(AMV_ERROR_BAD_RECORD, print_to(page, table, sizeof table, FULL_PAGE, out));
+    EXPECT(2 * AMV_ENTRY_LEN, out[AMV_PLACE]);
 }
 
 /* A block of two bytes of nibbles, which are 7, 15, 8 and 0. */
@@ -659,10 +519,7 @@ int main(void)
     parse();
     reads();
     index_and_jump();
-    far_jumps();
     register_step();
-    widen_index();
-    widen_built();
     print_index();
     decode_block();
     check();

@@ -6,7 +6,7 @@ mod sides;
 use std::hint::black_box;
 use std::time::Instant;
 
-use plain::{LINE, OLD_RECORD, PREAMBLE, PRELUDE, RECORD, calls};
+use plain::{LINE, PREAMBLE, PRELUDE, RECORD, calls};
 use sides::{CALLS, LIBRARY, Side, WORDS};
 
 /// The payload of the small frames.
@@ -150,11 +150,6 @@ fn races(runs: usize) {
         sides::SEEKS as usize * count,
         |side| (side.seek_steps)(&table),
     );
-    let old = vec![7; OLD_RECORD * count];
-    race("widen, as many old records", runs, count, |side| {
-        (side.widen)(&old, &mut table)
-    });
-    (LIBRARY.index)(&frames, &mut table);
     let mut page = vec![0; LINE * count];
     race("page, 60 KiB of 16-byte frames", runs, count, |side| {
         (side.page)(&table, &mut page)

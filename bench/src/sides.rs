@@ -14,8 +14,6 @@ pub struct Side {
     pub steps: fn(&[u8]) -> u64,
     /// The seeks, by register steps.
     pub seek_steps: fn(&[u8]) -> u64,
-    /// An old table into another.
-    pub widen: fn(&[u8], &mut [u8]) -> u64,
     pub page: fn(&[u8], &mut [u8]) -> u64,
     /// Each of the blocks in turn into the same samples.
     pub sound: fn(&[Vec<u8>], &mut [i16]) -> u64,
@@ -62,8 +60,7 @@ fn last_sample(samples: &[i16]) -> u64 {
 
 /// The two sides that have the C interface differ in the functions alone.
 macro_rules! side_of_words {
-    ($next:path, $index:path, $summary:path, $seek:path, $step:path, $widen:path, $print:path, $decode:path, $check:path,
-     $header:path, $packet:path, $trailer:path) => {
+    ($next:path, $index:path, $summary:path, $seek:path, $step:path, $print:path, $decode:path, $check:path, $header:path, $packet:path, $trailer:path) => {
         Side {
             index: |file, table| fill($index, file, table),
             summary: |file| {
@@ -124,7 +121,6 @@ macro_rules! side_of_words {
                 }
                 sum
             },
-            widen: |old, table| fill($widen, old, table),
             page: |table, page| fill($print, table, page),
             sound: |blocks, samples| {
                 let decode = |block: &Vec<u8>| {
@@ -164,7 +160,6 @@ pub const LIBRARY: Side = side_of_words!(
     c::amv_summary,
     c::amv_seek_to_via_index,
     c::amv_register_step,
-    c::amv_widen_index,
     c::amv_print_index,
     c::amv_decode_block,
     c::amv_check,
@@ -179,7 +174,6 @@ pub const WORDS: Side = side_of_words!(
     words::summary,
     words::seek_to_via_index,
     words::register_step,
-    words::widen_index,
     words::print_index,
     words::decode_block_by_table,
     words::check,
@@ -246,7 +240,6 @@ pub const CALLS: Side = Side {
         }
         sum
     },
-    widen: |old, table| calls::widen_index(old, table).unwrap(),
     page: |table, page| calls::print_index(table, page).unwrap(),
     sound: |blocks, samples| {
         let decode = |block: &Vec<u8>| {

@@ -13,7 +13,6 @@ use crate::said::{Said, Write, accepted, refused};
 use crate::seeks;
 use crate::sounds;
 use crate::tally::{Tally, hex};
-use crate::widen;
 
 /// Whether the original agrees with what is expected of it. The rule that was needed is entered. Where the original cannot be
 /// asked there is no answer on either side.
@@ -226,13 +225,9 @@ pub fn before_unknown_tag(tally: &mut Tally, file: &[u8]) {
         let Ok(Some(packet)) = plain::next_packet(file, &mut walker) else {
             break;
         };
-        // A walker that went back would never come to an end.
-        if walker.cursor <= position.cursor {
-            break;
-        }
         let record = plain::Record {
             tag: plain::stream_tag(packet.stream),
-            offset: position.cursor,
+            offset: position.cursor as u32,
             frames: position.frames as u32,
             blocks: position.blocks as u32,
             samples: position.samples,
@@ -375,26 +370,6 @@ pub fn register_step(
             hex(table),
             hex(file),
             hex(block),
-            hex(lent.lent())
-        )
-    });
-}
-
-/// A copy of an old table, which must stay, widened into lent bytes. The original's records were never bytes: what is said of every old table
-/// takes its place.
-pub fn widen_index(tally: &mut Tally, old: &[u8], given: &[u8]) {
-    let mut table = given.to_vec();
-    let plain = PLAIN.widen_index(old, &mut table);
-    let [mut lent_old, mut lent] = [old, given].map(Guarded::new);
-    let library = LIBRARY.widen_index(lent_old.lent(), lent.lent());
-    let library_same = plain == library && lent.holds(&table) && lent_old.holds(old);
-    let stands = widen::stands(old, given, library, lent.lent());
-    tally.judge("widen_index", library_same && stands, || {
-        format!(
-            "table {} of old {}: plain {plain:?} {}, library {library:?} {}, stands {stands}",
-            hex(given),
-            hex(old),
-            hex(&table),
             hex(lent.lent())
         )
     });

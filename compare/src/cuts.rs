@@ -149,31 +149,14 @@ impl<'a> Recording<'a> {
 fn cut_to(tally: &mut Tally, recording: &Recording, n: u64) {
     let mut lent = Guarded::new(&recording.file[..n as usize]);
     let cut = &*lent.lent();
-    let expected = both_tell(tally, recording, cut);
-    let same = original_tells(tally, cut, &expected);
-    tally.judge("cut recording on original", same, || {
-        format!("{n} bytes of {}", hex(recording.file))
-    });
-}
-
-/// What the library and the plain implementation tell of a recording that is cut to these bytes; and what must be told.
-fn both_tell(tally: &mut Tally, recording: &Recording, cut: &[u8]) -> Told {
-    let n = cut.len() as u64;
     let expected = recording.expected(n);
     let (reads, records) = (expected.reads.len(), recording.chunks.len());
     let input = || format!("{n} bytes of {}", hex(recording.file));
     let [plain, library] = [PLAIN, LIBRARY].map(|side| told(side, cut, reads, records));
     tally.equal("cut recording on plain", &expected, &plain, input);
     tally.equal("cut recording on library", &expected, &library, input);
-    expected
-}
-
-/// A long recording cut to these lengths, where it stands: the rest of it follows. The original, whose reads copy each payload, is not asked.
-pub fn in_place(tally: &mut Tally, file: &[u8], lengths: &[u64]) {
-    let recording = Recording::new(tally, file);
-    for n in lengths {
-        both_tell(tally, &recording, &file[..*n as usize]);
-    }
+    let same = original_tells(tally, cut, &expected);
+    tally.judge("cut recording on original", same, input);
 }
 
 /// Whether the original tells the same. It has no check and no summary, and where a size is cut its parse panics, which is a rule.
@@ -198,7 +181,7 @@ pub fn everywhere(tally: &mut Tally, file: &[u8]) {
 }
 
 /// The lengths about a chunk: where it starts, where its header ends, 8 bytes of its payload and all of it; each, and a byte less and more.
-pub fn about(chunk: &Chunk) -> impl Iterator<Item = u64> + use<> {
+fn about(chunk: &Chunk) -> impl Iterator<Item = u64> {
     let (start, payload) = (chunk.offset, chunk.offset + 8);
     let edges = [start, payload, payload + 8, payload + chunk.length];
     edges.into_iter().flat_map(|edge| edge - 1..=edge + 1)

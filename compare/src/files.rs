@@ -4,9 +4,6 @@ use plain::{AUDIO, PRELUDE, Settings, TRAILER, VIDEO};
 
 use crate::random::Random;
 
-/// The file limit, as 02 has it: 16 GiB.
-pub const LIMIT: u64 = 17_179_869_184;
-
 pub const EXAMPLE_SETTINGS: Settings = Settings {
     width: 8,
     height: 8,

@@ -3,7 +3,6 @@
 
 use plain::{AUDIO, PRELUDE, Packet, Record, TRAILER, VIDEO, parse_strict};
 
-use crate::files::LIMIT;
 use crate::pieces;
 
 /// A chunk.
@@ -16,11 +15,8 @@ pub struct Chunk {
 
 /// The grammar as a recogniser: the chunks of a finished file, or none.
 pub fn finished(file: &[u8]) -> Option<Vec<Chunk>> {
-    let (prelude, mut rest) = file.split_at_checked(PRELUDE)?;
-    parse_strict(prelude).ok()?;
-    if file.len() as u64 > LIMIT {
-        return None;
-    }
+    parse_strict(file).ok()?;
+    let mut rest = &file[PRELUDE..];
     let mut chunks = Vec::new();
     while rest != TRAILER {
         let tag = u32::from_le_bytes(*rest.first_chunk()?);
@@ -135,7 +131,7 @@ impl Contents {
         };
         let record = |tag, [offset, frames, samples, blocks]: [u64; 4]| Record {
             tag,
-            offset,
+            offset: offset as u32,
             frames: frames as u32,
             blocks: blocks as u32,
             samples,

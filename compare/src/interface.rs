@@ -14,7 +14,6 @@ type Out<const N: usize> = *mut [u64; N];
 type Filling = unsafe extern "C" fn(*const u8, usize, *mut u8, usize, Out<2>) -> u32;
 
 /// The functions of the interface.
-#[derive(Clone, Copy)]
 pub struct Interface {
     parse: unsafe extern "C" fn(*const u8, usize, bool, Out<16>) -> u32,
     next_packet: unsafe extern "C" fn(*const u8, usize, *mut WalkerWords, Out<7>) -> u32,
@@ -31,7 +30,6 @@ pub struct Interface {
         usize,
         Out<7>,
     ) -> u32,
-    widen_index: Filling,
     print_index: Filling,
     decode_block: unsafe extern "C" fn(*const u8, usize, *mut i16, usize, Out<2>) -> u32,
     summary: unsafe extern "C" fn(*const u8, usize, Out<3>) -> u32,
@@ -58,7 +56,6 @@ pub const LIBRARY: Interface = Interface {
     build_chunk_index: c::amv_build_chunk_index,
     seek_to_via_index: c::amv_seek_to_via_index,
     register_step: c::amv_register_step,
-    widen_index: c::amv_widen_index,
     print_index: c::amv_print_index,
     decode_block: c::amv_decode_block,
     summary: c::amv_summary,
@@ -77,7 +74,6 @@ pub const PLAIN: Interface = Interface {
     build_chunk_index: words::build_chunk_index,
     seek_to_via_index: words::seek_to_via_index,
     register_step: words::register_step,
-    widen_index: words::widen_index,
     print_index: words::print_index,
     decode_block: words::decode_block,
     summary: words::summary,
@@ -180,10 +176,6 @@ impl Interface {
                 )
             })
         })
-    }
-
-    pub fn widen_index(&self, old: &[u8], table: &mut [u8]) -> Said<2> {
-        fill(self.widen_index, old, table)
     }
 
     pub fn print_index(&self, table: &[u8], page: &mut [u8]) -> Said<2> {

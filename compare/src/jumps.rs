@@ -8,7 +8,7 @@ use crate::cuts;
 use crate::files;
 use crate::grammar::{self, Chunk, Contents};
 use crate::interface::{LIBRARY, PLAIN};
-use crate::lists::{self, Call, Named, Names, Runner, Side, calls_for, seek_near, stamp_of};
+use crate::lists::{self, Call, Names, Runner, Side, calls_for, seek_near, stamp_of};
 use crate::random::Random;
 use crate::registers;
 use crate::said::{Said, accepted, refused, said_read};
@@ -83,19 +83,13 @@ pub fn telling_list(records: &[Record]) -> Vec<Call> {
 
 /// Runs lists on that part of a file that has an index. Where it is not all of the file, the index of the file is refused there with 31.
 fn on_file(tally: &mut Tally, file: &[u8], lists: impl FnOnce(&mut Tally, &mut Runner)) {
-    let (part, contents) = part_of(tally, file);
-    lists(tally, &mut Runner::new(ANY, part, &contents));
-}
-
-/// The part of a file that has an index, and what it holds.
-fn part_of<'a>(tally: &mut Tally, file: &'a [u8]) -> (&'a [u8], Contents) {
     let (part, contents) = Contents::indexed(file);
     if part.len() < file.len() {
         let refusal = refused(31, part.len() as u64);
         let said = [PLAIN, LIBRARY].map(|side| side.build_chunk_index(file, &mut []));
         tally.equal("31 before a list", [refusal; 2], said, || hex(file));
     }
-    (part, contents)
+    lists(tally, &mut Runner::new(ANY, part, &contents));
 }
 
 /// The telling list on any file. Before an unknown tag that is the first there is a prelude alone: one is enough of those.
@@ -118,14 +112,6 @@ fn all_up_to(tally: &mut Tally, runner: &mut Runner, most: u32) {
 /// All lists of up to two telling calls on any file.
 fn all_on(tally: &mut Tally, file: &[u8]) {
     on_file(tally, file, |tally, runner| all_up_to(tally, runner, 2));
-}
-
-/// The telling list, and all lists of up to two telling calls, on a long file where it stands.
-pub fn any_in_place(tally: &mut Tally, file: &[u8]) {
-    let (part, contents) = part_of(tally, file);
-    let mut runner = Runner::in_place(ANY, part, &contents);
-    runner.run(tally, &telling_list(&contents.records));
-    all_up_to(tally, &mut runner, 2);
 }
 
 /// A finished recording, to be cut.
@@ -151,13 +137,8 @@ impl<'a> Recording<'a> {
     }
 }
 
-/// The sides for a file with so many records.
-type Sides = fn(Names, &[u8], usize) -> Vec<Named<'_>>;
-
 /// A side in a cut recording, and the same in the whole one, each with its own index.
 struct Beside<'a> {
-    /// What its lists are counted by.
-    name: &'static str,
     recording: &'a Recording<'a>,
     n: u64,
     /// How many records the cut file has.
@@ -167,15 +148,14 @@ struct Beside<'a> {
 }
 
 impl<'a> Beside<'a> {
-    /// The sides, for a recording that is cut to n bytes, as `sides` has them for a file.
-    fn sides(recording: &'a Recording, n: u64, sides: Sides) -> Vec<Self> {
+    /// The three sides, for a recording that is cut to n bytes.
+    fn sides(recording: &'a Recording, n: u64) -> Vec<Self> {
         let (file, contents) = recording.cut_to(n);
         let records = contents.records.len();
-        let cut = sides(BESIDE, file, records).into_iter();
-        let whole = sides(BESIDE, recording.file, recording.chunks.len());
+        let cut = lists::sides(file, records).into_iter();
+        let whole = lists::sides(recording.file, recording.chunks.len());
         cut.zip(whole)
-            .map(|((name, cut), (_, whole))| Self {
-                name,
+            .map(|(cut, whole)| Self {
                 recording,
                 n,
                 records,
@@ -261,9 +241,9 @@ impl<'a> Beside<'a> {
 
 /// Lists on a cut recording beside the whole one, on each of its sides.
 fn beside(tally: &mut Tally, sides: &mut [Beside], apart: [&[Call]; 2], together: &[Call]) {
-    for side in sides {
+    for (name, side) in BESIDE.iter().zip(sides) {
         let same = side.run(apart, together);
-        tally.judge(side.name, same, || {
+        tally.judge(name, same, || {
             let (n, file) = (side.n, hex(side.recording.file));
             format!("{together:?} after {apart:?} on {n} bytes of {file}")
         });
@@ -278,29 +258,10 @@ fn all_cut(tally: &mut Tally, random: &mut Random, recording: &Recording, n: u64
     for _ in 0..4 {
         registers::list(tally, random, CUT_STEPS, file, &contents);
     }
-    all_beside(tally, recording, n, lists::sides);
-}
-
-/// All lists of two telling calls, of a recording that is cut to n bytes and of the whole one, on both.
-fn all_beside(tally: &mut Tally, recording: &Recording, n: u64, sides: Sides) {
-    let (_, contents) = recording.cut_to(n);
     let mut calls = telling_calls(&contents.records);
     calls.extend(&telling_calls(&recording.whole.records)[2..]);
-    let mut sides = Beside::sides(recording, n, sides);
+    let mut sides = Beside::sides(recording, n);
     files::all_lists(&calls, 2, |list| beside(tally, &mut sides, [&[]; 2], list));
-}
-
-/// All lists of up to two telling calls on a long recording that is cut to these lengths where it stands, and of two on it and on the whole
-/// one.
-pub fn in_place(tally: &mut Tally, file: &[u8], lengths: &[u64]) {
-    let recording = Recording::new(file);
-    for n in lengths {
-        let (file, contents) = recording.cut_to(*n);
-        let mut runner = Runner::in_place(CUT, file, &contents);
-        runner.run(tally, &telling_list(&contents.records));
-        all_up_to(tally, &mut runner, 2);
-        all_beside(tally, &recording, *n, lists::sides_in_place);
-    }
 }
 
 /// Short lists on short files, in full.
@@ -367,7 +328,7 @@ pub fn cut_round(tally: &mut Tally, random: &mut Random, file: &[u8]) {
         let mut list = |records| calls_for(random, records);
         let (in_cut, in_whole, mut after) = (list(here), list(there), list(here));
         Runner::new(CUT, file, &contents).run(tally, &in_cut);
-        let mut sides = Beside::sides(&recording, n, lists::sides);
+        let mut sides = Beside::sides(&recording, n);
         beside(tally, &mut sides, [&[]; 2], &in_cut);
         beside(tally, &mut sides, [&[]; 2], &in_whole);
         after.insert(0, seek_near(random, there));

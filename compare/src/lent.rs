@@ -5,17 +5,16 @@ use std::io::{self, Seek, SeekFrom};
 use std::rc::Rc;
 
 /// A buffer of fixed length as a writer. It is shared, so that its bytes can be seen when the muxer that held it is gone.
-pub struct Lent<B> {
-    pub bytes: Rc<RefCell<B>>,
+pub struct Lent {
+    pub bytes: Rc<RefCell<Vec<u8>>>,
     pub position: u64,
     /// Where the file ends: `SeekFrom::End` counts from there.
     pub end: u64,
 }
 
-impl<B: AsMut<[u8]>> io::Write for Lent<B> {
+impl io::Write for Lent {
     fn write(&mut self, data: &[u8]) -> io::Result<usize> {
-        let mut lent = self.bytes.borrow_mut();
-        let bytes = lent.as_mut();
+        let mut bytes = self.bytes.borrow_mut();
         let from = usize::try_from(self.position)
             .unwrap_or(usize::MAX)
             .min(bytes.len());
@@ -30,7 +29,7 @@ impl<B: AsMut<[u8]>> io::Write for Lent<B> {
     }
 }
 
-impl<B> Seek for Lent<B> {
+impl Seek for Lent {
     fn seek(&mut self, to: SeekFrom) -> io::Result<u64> {
         self.position = match to {
             SeekFrom::Start(at) => at,
@@ -42,9 +41,9 @@ impl<B> Seek for Lent<B> {
 }
 
 /// The muxer keeps its writer to itself, so it gets one that shares the buffer, and the buffer's position can still be told.
-pub struct Shared<B>(pub Rc<RefCell<Lent<B>>>);
+pub struct Shared(pub Rc<RefCell<Lent>>);
 
-impl<B: AsMut<[u8]>> io::Write for Shared<B> {
+impl io::Write for Shared {
     fn write(&mut self, data: &[u8]) -> io::Result<usize> {
         self.0.borrow_mut().write(data)
     }
@@ -54,7 +53,7 @@ impl<B: AsMut<[u8]>> io::Write for Shared<B> {
     }
 }
 
-impl<B> Seek for Shared<B> {
+impl Seek for Shared {
     fn seek(&mut self, to: SeekFrom) -> io::Result<u64> {
         self.0.borrow_mut().seek(to)
     }

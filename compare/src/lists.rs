@@ -113,17 +113,6 @@ impl<'a> Machine<'a> {
         Ok(found.map(|i| stamp_of(&records[i]).1))
     }
 
-    /// How many bytes of payload a read here copies, if it copies them, in a file of that length.
-    fn copied(&self, length: u64) -> u64 {
-        let at_packet = self.contents.packets.get(self.position);
-        let at_record = self.contents.records.get(self.position);
-        match (at_packet, at_record) {
-            (Some(packet), _) => packet.length,
-            (None, Some(cut)) => length - cut.offset - 8,
-            (None, None) => 0,
-        }
-    }
-
     /// The marks of a walker that ran the same list: end, cut, and the trailer.
     pub fn marks(&self) -> [u64; 3] {
         let (end, met) = (self.end as u64, self.met as u64);
@@ -137,8 +126,8 @@ impl<'a> Machine<'a> {
     pub fn fits(&self, walker: &WalkerWords) -> bool {
         let at = self.contents.records.get(self.position);
         let placed = at.is_none_or(|record| {
-            let [frames, blocks] = [record.frames, record.blocks].map(u64::from);
-            walker[..4] == [record.offset, frames, record.samples, blocks]
+            let [offset, frames, blocks] = [record.offset, record.frames, record.blocks];
+            walker[..4] == [offset.into(), frames.into(), record.samples, blocks.into()]
         });
         placed && walker[4..] == self.marks()
     }
@@ -219,13 +208,9 @@ pub struct OriginalSide {
 }
 
 impl OriginalSide {
-    /// With a fresh walker, on a copy of a file.
-    pub fn new(file: &[u8]) -> Self {
-        Self::over(original::File::new(file))
-    }
-
     /// With a fresh walker.
-    pub fn over(mut file: original::File) -> Self {
+    pub fn new(file: &[u8]) -> Self {
+        let mut file = original::File::new(file);
         Self {
             records: file.records().ok(),
             file,
@@ -265,60 +250,43 @@ impl Side for OriginalSide {
     }
 }
 
-/// The names that lists on a file are counted by: on plain, on the original, on the library.
-pub type Names = [&'static str; 3];
-
-/// One that runs lists, and the name that they are counted by.
-pub type Named<'a> = (&'static str, Box<dyn Side + 'a>);
-
-/// Those that run lists on a file where it stands, each with a fresh walker and room for exactly so many records.
-pub fn sides_in_place(names: Names, file: &[u8], records: usize) -> Vec<Named<'_>> {
-    let [plain, _, library] = names;
-    vec![
-        (plain, Box::new(WordsSide::new(PLAIN, file, records))),
-        (library, Box::new(WordsSide::new(LIBRARY, file, records))),
+/// Those that run lists on a file, each with a fresh walker and room for exactly so many records.
+pub fn sides(file: &[u8], records: usize) -> [Box<dyn Side + '_>; 3] {
+    [
+        Box::new(WordsSide::new(PLAIN, file, records)),
+        Box::new(OriginalSide::new(file)),
+        Box::new(WordsSide::new(LIBRARY, file, records)),
     ]
 }
 
-/// The same, and the original on a copy of the file.
-pub fn sides(names: Names, file: &[u8], records: usize) -> Vec<Named<'_>> {
-    let mut sides = sides_in_place(names, file, records);
-    sides.insert(1, (names[1], Box::new(OriginalSide::new(file))));
-    sides
-}
+/// The names that lists on a file are counted by, for each of the sides.
+pub type Names = [&'static str; 3];
 
 /// Runs lists on a file, on each side from a fresh walker.
 pub struct Runner<'a> {
+    names: Names,
     /// The file.
     pub file: &'a [u8],
     /// What the lists meet in it.
     pub contents: &'a Contents,
-    sides: Vec<Named<'a>>,
+    sides: [Box<dyn Side + 'a>; 3],
 }
 
 impl<'a> Runner<'a> {
     /// On a file with these contents.
     pub fn new(names: Names, file: &'a [u8], contents: &'a Contents) -> Self {
         Self {
+            names,
             file,
             contents,
-            sides: sides(names, file, contents.records.len()),
-        }
-    }
-
-    /// On a file that is too long to be copied, and not on the original.
-    pub fn in_place(names: Names, file: &'a [u8], contents: &'a Contents) -> Self {
-        Self {
-            file,
-            contents,
-            sides: sides_in_place(names, file, contents.records.len()),
+            sides: sides(file, contents.records.len()),
         }
     }
 
     /// A list on each side, against the plain machine. All leave the same walker, at the end too, where the machine fixes no position.
     pub fn run(&mut self, tally: &mut Tally, list: &[Call]) {
         let mut left = None;
-        for (name, side) in &mut self.sides {
+        for (name, side) in self.names.iter().zip(&mut self.sides) {
             let differs = differs(self.contents, list, &mut **side);
             let walker = side.walker();
             let same = differs.is_none() && *left.get_or_insert(walker) == walker;
@@ -328,33 +296,6 @@ impl<'a> Runner<'a> {
             });
         }
     }
-}
-
-/// The most bytes that the original is made to copy by one read of a long file.
-const MOST_COPIED: u64 = 1 << 20;
-
-/// A list for the original on a long file with these contents, of which it reads no long payload, since it would copy it: to each record, and
-/// up to two reads there; a seek that is refused; and to the end by either stream, with a read there.
-pub fn short_reads(contents: &Contents, length: u64) -> Vec<Call> {
-    let mut machine = Machine::new(contents);
-    let mut list = Vec::new();
-    for (stream, stamp) in contents.records.iter().map(stamp_of) {
-        list.push(Call::Seek(stream, stamp as i64));
-        machine
-            .seek(stream, stamp as i64)
-            .expect("a stream that exists");
-        for _ in 0..2 {
-            if machine.copied(length) <= MOST_COPIED {
-                list.push(Call::Read);
-                machine.read();
-            }
-        }
-    }
-    list.push(Call::Seek(2, 0));
-    for stream in [0, 1] {
-        list.extend([Call::Seek(stream, i64::MAX), Call::Read]);
-    }
-    list
 }
 
 /// What differs from the plain machine, if anything, where a side runs a list from a fresh walker: the index that it goes by, the answer of

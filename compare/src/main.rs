@@ -17,7 +17,6 @@ mod large;
 mod lent;
 mod listing;
 mod lists;
-mod mapping;
 mod original;
 mod pages;
 mod pieces;
@@ -32,7 +31,6 @@ mod suites;
 mod tally;
 mod texts;
 mod vectors;
-mod widen;
 
 use std::process::ExitCode;
 use std::time::Instant;

@@ -149,18 +149,8 @@ pub fn from_frame_count(frames: u64, fps: u32) -> u32 {
 
 /// The demuxer over one file.
 pub struct File {
-    bytes: Bytes,
+    bytes: Rc<[u8]>,
     demuxer: AmvDemuxer,
-}
-
-/// The bytes of a file. They are shared with its demuxer, which keeps its reader to itself.
-#[derive(Clone)]
-struct Bytes(Rc<dyn AsRef<[u8]>>);
-
-impl AsRef<[u8]> for Bytes {
-    fn as_ref(&self) -> &[u8] {
-        (*self.0).as_ref()
-    }
 }
 
 fn state_of(walker: &Walker) -> WalkState {
@@ -188,14 +178,8 @@ fn walker_of(state: WalkState) -> Walker {
 }
 
 impl File {
-    /// Of a copy of these bytes.
     pub fn new(bytes: &[u8]) -> Self {
-        Self::over(Vec::from(bytes))
-    }
-
-    /// Of these bytes themselves, which may be very many.
-    pub fn over(bytes: impl AsRef<[u8]> + 'static) -> Self {
-        let bytes = Bytes(Rc::new(bytes));
+        let bytes: Rc<[u8]> = bytes.into();
         let demuxer = AmvDemuxer::over(Box::new(Cursor::new(bytes.clone())));
         Self { bytes, demuxer }
     }
@@ -218,7 +202,7 @@ impl File {
     /// is set; and a time base. Where the copy or one of the first two is otherwise, the length is made one that never agrees.
     fn packet_words(&self, packet: &Packet, start: u64) -> [u64; 6] {
         let end = start as usize + packet.data.len();
-        let same = self.bytes.as_ref().get(start as usize..end) == Some(&packet.data[..]);
+        let same = self.bytes.get(start as usize..end) == Some(&packet.data[..]);
         let usual = packet.dts == packet.pts && packet.flags.keyframe;
         [
             1,
@@ -259,7 +243,7 @@ impl File {
 fn record_of(entry: &ChunkIndexEntry) -> Record {
     Record {
         tag: tag_of(entry.kind),
-        offset: entry.file_offset,
+        offset: entry.file_offset as u32,
         frames: entry.video_pts_before as u32,
         blocks: entry.audio_blocks_before as u32,
         samples: entry.audio_pts_before as u64,
@@ -268,7 +252,7 @@ fn record_of(entry: &ChunkIndexEntry) -> Record {
 
 fn entry_of(record: &Record) -> ChunkIndexEntry {
     ChunkIndexEntry::new(
-        record.offset,
+        record.offset as u64,
         kind_of(record.tag),
         record.frames as i64,
         record.samples as i64,
@@ -344,11 +328,8 @@ fn mux_state(writer: &Writer) -> MuxState {
     }
 }
 
-/// A writing call on a muxer whose writer stands at `written` in the buffer, of whichever kind that is.
-pub fn write<B>(writer: &Writer, buf: &mut B, call: Write) -> Wrote
-where
-    B: AsMut<[u8]> + Default + 'static,
-{
+/// A writing call on a muxer whose writer stands at `written` in the buffer.
+pub fn write(writer: &Writer, buf: &mut Vec<u8>, call: Write) -> Wrote {
     let bytes = Rc::new(RefCell::new(std::mem::take(buf)));
     let lent = Rc::new(RefCell::new(Lent {
         bytes: bytes.clone(),
@@ -385,6 +366,13 @@ pub fn write_by_value(payload: Vec<u8>) -> u32 {
     let mut muxer = AmvMuxer::over(Box::new(Cursor::new(Vec::new())), mux_state(&writer));
     let answer = muxer.write_packet(&Packet::new(0, TimeBase::new(1, 1), payload));
     answer.map_or_else(|error| writer_number(&error), |()| 0)
+}
+
+/// The records of a file that goes by value.
+pub fn records_by_value(file: Vec<u8>) -> Option<Vec<Record>> {
+    let mut demuxer = AmvDemuxer::over(Box::new(Cursor::new(file)));
+    demuxer.build_chunk_index().ok()?;
+    Some(demuxer.chunk_index()?.iter().map(record_of).collect())
 }
 
 /// Whether `open` takes the settings.

@@ -1,10 +1,10 @@
 //! Pages for the printer (docs/FORMAT.md, 15): what the request says of every page, in terms that share nothing with
 //! those of the plain implementation, and the tables and pages that are fed to the comparison.
 
-use plain::{AUDIO, COUNT_LIMIT, LINE, PRELUDE, Packet, RECORD, Record, VIDEO};
+use plain::{AUDIO, COUNT_LIMIT, LINE, Packet, RECORD, Record, VIDEO};
 
 use crate::calls::{self, Guarded};
-use crate::files::{self, LIMIT};
+use crate::files;
 use crate::grammar;
 use crate::interface::LIBRARY;
 use crate::random::Random;
@@ -29,7 +29,7 @@ fn rows_of_table(table: &[u8]) -> Vec<Row> {
             b"01wb" => Some('A'),
             _ => None,
         },
-        numbers: [&record[4..12], &record[12..16], &record[20..28]].map(number),
+        numbers: [&record[4..8], &record[8..12], &record[16..24]].map(number),
     };
     table.chunks_exact(RECORD).map(row).collect()
 }
@@ -57,19 +57,14 @@ fn rows_of_page(page: &[u8]) -> Option<Vec<Row>> {
 /// The answer to a table and a page of that length, with a look at the whole table for each question.
 fn expected(table: &[u8], page_len: usize) -> Said<2> {
     let rows = rows_of_table(table);
-    let first_wide = |number: usize, digits| {
-        let wide = |row: &Row| row.numbers[number].to_string().len() > digits;
-        let found = rows.iter().position(wide);
-        found.map(|i| (RECORD * i) as u64)
-    };
+    let wide = |row: &Row| row.numbers[2].to_string().len() > 18;
+    let too_many = rows.iter().position(wide);
     if RECORD * rows.len() != table.len() {
         refused(41, 0)
     } else if let Some(place) = seeks::bad_record(table) {
         refused(43, place)
-    } else if let Some(place) = first_wide(2, 18) {
-        refused(70, place)
-    } else if let Some(place) = first_wide(0, 10) {
-        refused(76, place)
+    } else if let Some(i) = too_many {
+        refused(70, (RECORD * i) as u64)
     } else if page_len < LINE * rows.len() {
         refused(40, 0)
     } else {
@@ -124,25 +119,23 @@ pub fn short(tally: &mut Tally) {
 /// questions.
 fn telling(bound: u64) -> Vec<u64> {
     let digits = (1..20).flat_map(|n| [10u64.pow(n) - 1, 10u64.pow(n)]);
-    let fields = [0, u32::MAX.into(), 1 << 32, u64::MAX];
-    let asked = [COUNT_LIMIT - 1, COUNT_LIMIT, LIMIT - 1, LIMIT, LIMIT + 1];
-    let numbers = digits.chain(fields).chain(asked);
-    numbers.filter(|n| *n <= bound).collect()
+    let bounds = [0, u32::MAX.into(), COUNT_LIMIT - 1, COUNT_LIMIT, u64::MAX];
+    digits.chain(bounds).filter(|n| *n <= bound).collect()
 }
 
 /// Each telling number in each of a line's columns, with each in the other ones.
 fn lines(tally: &mut Tally) {
-    let (words, doubles) = (telling(u32::MAX.into()), telling(u64::MAX));
-    for samples in &doubles {
-        for offset in &doubles {
+    let words = telling(u32::MAX.into());
+    for samples in telling(u64::MAX) {
+        for offset in &words {
             for frames in &words {
                 for tag in [VIDEO, AUDIO] {
                     let record = Record {
                         tag,
-                        offset: *offset,
+                        offset: *offset as u32,
                         frames: *frames as u32,
                         blocks: 7,
-                        samples: *samples,
+                        samples,
                     };
                     calls::print_index(tally, &record.bytes(), &[0xc3; LINE + 1]);
                 }
@@ -154,25 +147,17 @@ fn lines(tally: &mut Tally) {
 /// The least number of samples that is refused with 70.
 const TOO_MANY: u64 = 10u64.pow(18);
 
-/// The least offset that is refused with 76.
-const TOO_FAR: u64 = 10u64.pow(10);
-
 /// All lists of up to four records that the questions turn on, whole and ragged, with pages that fit, are short by a
 /// byte, empty or longer: so several questions are answered with no at once.
 fn questions(tally: &mut Tally) {
     let kinds = [
-        (VIDEO, NEAR, 0),
-        (AUDIO, NEAR, TOO_MANY - 1),
-        (VIDEO, NEAR, TOO_MANY),
-        (AUDIO, NEAR, COUNT_LIMIT - 1),
-        (AUDIO, NEAR, COUNT_LIMIT),
-        (0, NEAR, 0),
-        (0, NEAR, TOO_MANY),
-        (VIDEO, TOO_FAR - 1, 0),
-        (AUDIO, TOO_FAR, 0),
-        (VIDEO, LIMIT, TOO_MANY),
-        (AUDIO, LIMIT + 1, 0),
-        (0, TOO_FAR, 0),
+        (VIDEO, 0),
+        (AUDIO, TOO_MANY - 1),
+        (VIDEO, TOO_MANY),
+        (AUDIO, COUNT_LIMIT - 1),
+        (AUDIO, COUNT_LIMIT),
+        (0, 0),
+        (0, TOO_MANY),
     ];
     for count in 0..=4 {
         files::all_lists(&kinds, count, |kinds| {
@@ -188,20 +173,11 @@ fn questions(tally: &mut Tally) {
     }
 }
 
-/// What the questions about a record turn on: its tag, its offset and its samples.
-pub type Kind = (u32, u64, u64);
-
-/// The offset of a kind whose records stand near the start of a file, each at another place.
-pub const NEAR: u64 = 0;
-
-/// Records of these kinds, each with another number of frames.
-pub fn table_of(kinds: &[Kind]) -> Vec<u8> {
-    let record = |(i, (tag, offset, samples)): (usize, &Kind)| Record {
+/// Records of these tags and samples, each at another offset, with another number of frames.
+pub fn table_of(kinds: &[(u32, u64)]) -> Vec<u8> {
+    let record = |(i, (tag, samples)): (usize, &(u32, u64))| Record {
         tag: *tag,
-        offset: match *offset {
-            NEAR => (PRELUDE + 11 * i) as u64,
-            offset => offset,
-        },
+        offset: 316 + 11 * i as u32,
         frames: 9 + i as u32,
         blocks: 7,
         samples: *samples,
@@ -212,12 +188,7 @@ pub fn table_of(kinds: &[Kind]) -> Vec<u8> {
 
 /// All lengths of a table up to three records and of a page up to three lines, and a byte more.
 fn lengths(tally: &mut Tally) {
-    let table = table_of(&[
-        (VIDEO, NEAR, 0),
-        (AUDIO, NEAR, 10),
-        (VIDEO, TOO_FAR - 1, TOO_MANY - 1),
-        (AUDIO, 1 << 32, 99),
-    ]);
+    let table = table_of(&[(VIDEO, 0), (AUDIO, 10), (VIDEO, TOO_MANY - 1), (AUDIO, 99)]);
     for table_len in 0..=3 * RECORD + 1 {
         for page_len in 0..=3 * LINE + 1 {
             calls::print_index(tally, &table[..table_len], &vec![0xc3; page_len]);
@@ -261,21 +232,19 @@ fn random_number(random: &mut Random, most_digits: u64) -> u64 {
 
 /// One that can be printed, where it must be good.
 fn random_record(random: &mut Random, good: bool) -> Record {
-    let [frames, blocks] = [10; 2].map(|digits| random_number(random, digits) as u32);
+    let [offset, frames, blocks] = [10; 3].map(|digits| random_number(random, digits) as u32);
     let mut record = Record {
         tag: random.pick(&[VIDEO, AUDIO]),
-        offset: random_number(random, 10),
+        offset,
         frames,
         blocks,
         samples: random_number(random, 18),
     };
     if !good && random.once_in(6) {
-        match random.below(5) {
+        match random.below(3) {
             0 => record.tag = random.word32(),
             1 => record.samples = random.pick(&[TOO_MANY, COUNT_LIMIT - 1, COUNT_LIMIT]),
-            2 => record.samples = random.next(),
-            3 => record.offset = random.pick(&[TOO_FAR, LIMIT, LIMIT + 1]),
-            _ => record.offset = random.offset(),
+            _ => record.samples = random.next(),
         }
     }
     record

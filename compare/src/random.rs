@@ -34,7 +34,7 @@ impl Random {
 
     /// A word at or near one of the boundaries of 01 and of the types, or any at all.
     pub fn word(&mut self) -> u64 {
-        let near = self.pick(&[0, 1 << 16, 1 << 31, 1 << 32, 1 << 34, 1 << 62, 1 << 63]);
+        let near = self.pick(&[0, 1 << 16, 1 << 31, 1 << 32, 1 << 62, 1 << 63]);
         match self.below(4) {
             0 => self.below(20),
             1 => near + self.below(3),
@@ -51,16 +51,6 @@ impl Random {
             1 => near + self.below(3) as u32,
             2 => u32::wrapping_sub(near, 1 + self.below(3) as u32),
             _ => self.next() as u32,
-        }
-    }
-
-    /// An offset at or near one of those that a field, a column or a file just has room for, within the file limit, or any at all.
-    pub fn offset(&mut self) -> u64 {
-        let near = self.pick(&[316, 1 << 32, 10_000_000_000, 1 << 34]);
-        match self.below(4) {
-            0 => self.word(),
-            1 => near - 1 + self.below(3),
-            _ => self.below(1 << 34),
         }
     }
 }

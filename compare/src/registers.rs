@@ -6,11 +6,11 @@ use plain::words::{WalkerWords, walker_words};
 use plain::{AUDIO, COUNT_LIMIT, PRELUDE, RECORD, REGISTERS, Record, VIDEO, Walker};
 
 use crate::calls::{self, Guarded};
-use crate::files::{self, LIMIT};
+use crate::files;
 use crate::grammar::Contents;
 use crate::interface::{LIBRARY, PLAIN};
 use crate::lists::{self, Call, Machine, OriginalSide, Side, WordsSide};
-use crate::pages::{self, NEAR};
+use crate::pages;
 use crate::random::Random;
 use crate::said::{Said, accepted, refused, said_read};
 use crate::suites;
@@ -187,7 +187,7 @@ struct WrittenOut {
 const WRITTEN_OUT: [WrittenOut; 9] = [
     // The picture; all four bits may interrupt.
     WrittenOut {
-        table_len: 56,
+        table_len: 48,
         block: [1, 0, 15, 0, 0, 9, 6, 7, 1, 2, 3, 4, 5, 6, 7, 8],
         number: 0,
         packet: [1, 0, 324, 3, 0, 1],
@@ -195,7 +195,7 @@ const WRITTEN_OUT: [WrittenOut; 9] = [
     },
     // The sound: a packet was waiting already, and acknowledge clears what was pending.
     WrittenOut {
-        table_len: 56,
+        table_len: 48,
         block: [1, 1, 15, 1, 1, 0, 6, 7, 0, 0, 0, 0, 0, 0, 0, 0],
         number: 0,
         packet: [1, 1, 335, 10, 0, 2],
@@ -203,7 +203,7 @@ const WRITTEN_OUT: [WrittenOut; 9] = [
     },
     // The end, acknowledged and risen in one step; the request stays.
     WrittenOut {
-        table_len: 56,
+        table_len: 48,
         block: [1, 0xf1, 0xff, 0xf2, 0x72, 0, 6, 7, 8, 0, 0, 0, 0, 0, 0, 0],
         number: 0,
         packet: [0; 6],
@@ -211,7 +211,7 @@ const WRITTEN_OUT: [WrittenOut; 9] = [
     },
     // There is no second picture: the end, after which stands one picture.
     WrittenOut {
-        table_len: 56,
+        table_len: 48,
         block: [2, 0, 13, 0, 0, 0, 6, 7, 5, 0, 0, 0, 0, 0, 0, 0],
         number: 0,
         packet: [0; 6],
@@ -219,7 +219,7 @@ const WRITTEN_OUT: [WrittenOut; 9] = [
     },
     // A ragged table: the seek is refused, and the reader is at the end as before.
     WrittenOut {
-        table_len: 55,
+        table_len: 47,
         block: [3, 5, 15, 1, 0, 0, 6, 7, 1, 0, 0, 0, 0, 0, 0, 0],
         number: 0,
         packet: [0; 6],
@@ -227,7 +227,7 @@ const WRITTEN_OUT: [WrittenOut; 9] = [
     },
     // Nothing is asked of the table, and nothing was refused.
     WrittenOut {
-        table_len: 55,
+        table_len: 47,
         block: [0, 10, 15, 11, 9, 41, 6, 7, 1, 0, 0, 0, 0, 0, 0, 0],
         number: 0,
         packet: [0; 6],
@@ -235,7 +235,7 @@ const WRITTEN_OUT: [WrittenOut; 9] = [
     },
     // The sound at or after sample -1.
     WrittenOut {
-        table_len: 56,
+        table_len: 48,
         block: [
             3, 2, 15, 2, 0, 0, 6, 7, 255, 255, 255, 255, 255, 255, 255, 255,
         ],
@@ -245,7 +245,7 @@ const WRITTEN_OUT: [WrittenOut; 9] = [
     },
     // No command.
     WrittenOut {
-        table_len: 56,
+        table_len: 48,
         block: [4, 3, 15, 2, 2, 9, 6, 7, 1, 0, 0, 0, 0, 0, 0, 0],
         number: 75,
         packet: [0; 6],
@@ -253,7 +253,7 @@ const WRITTEN_OUT: [WrittenOut; 9] = [
     },
     // The sound again, which does not ask about the table.
     WrittenOut {
-        table_len: 55,
+        table_len: 47,
         block: [1, 0, 0, 2, 0, 0, 6, 7, 1, 0, 0, 0, 0, 0, 0, 0],
         number: 0,
         packet: [1, 1, 335, 10, 0, 2],
@@ -351,7 +351,7 @@ fn masks(tally: &mut Tally, random: &mut Random, fresh: &Reader) {
 /// Requests at and beside the stamps and the ends of the type, and those of which a part of the bytes would be answered otherwise; over the
 /// recording's index, and over one with great stamps.
 fn requests(tally: &mut Tally, random: &mut Random, fresh: &Reader) {
-    let great = [0, 1 << 32, 1 << 61, COUNT_LIMIT - 1].map(|samples| (AUDIO, NEAR, samples));
+    let great = [0, 1 << 32, 1 << 61, COUNT_LIMIT - 1].map(|samples| (AUDIO, samples));
     let great = Reader {
         table: &pages::table_of(&great),
         ..*fresh
@@ -403,25 +403,13 @@ fn walkers_of(file: &[u8]) -> Vec<WalkerWords> {
     walkers
 }
 
-/// Telling tables: the index itself, none, parts of it that are whole records and that are not, and with a record that is refused; with
-/// offsets at the file limit and past it, and past what 32 bits hold, alone and before a record that is refused too.
+/// Telling tables: the index itself, none, parts of it that are whole records and that are not, and with a record that is refused.
 fn tables_of(index: &[u8]) -> Vec<Vec<u8>> {
     let (mut tag, mut samples) = (index.to_vec(), index.to_vec());
     tag[RECORD] ^= 1;
     samples[2 * RECORD - 1] = 0x40;
-    let far = |given: &[u8], at: usize, offset: u64| {
-        let mut table = given.to_vec();
-        table[RECORD * at + 4..][..8].copy_from_slice(&offset.to_le_bytes());
-        table
-    };
-    let last = index.len() / RECORD - 1;
     let parts = [0, 1, RECORD - 1, RECORD, index.len() - 1, index.len()];
     let mut tables: Vec<Vec<u8>> = parts.map(|length| index[..length].to_vec()).into();
-    for offset in [1 << 32, LIMIT, LIMIT + 1, 1 << 63, u64::MAX] {
-        tables.extend([1, last].map(|at| far(index, at, offset)));
-    }
-    tables.extend([far(&tag, 0, LIMIT), far(&tag, 0, LIMIT + 1)]);
-    tables.extend([far(&samples, 0, LIMIT + 1), far(&samples, last, LIMIT + 1)]);
     tables.extend([tag, samples]);
     tables
 }

@@ -13,8 +13,7 @@ pub const WALKER_RANGE: &str = "walker out of range";
 pub const TABLE_ROOM: &str = "table too short for the index";
 pub const TABLE_LENGTH: &str = "a table that is no whole number of records";
 pub const STREAM: &str = "stream 2 in the indexed seek";
-pub const RECORDS: &str =
-    "records of an unknown kind, with 2^62 samples or more, or with an offset past the file limit";
+pub const RECORDS: &str = "records of an unknown kind, or with 2^62 samples or more";
 pub const STATE_WORDS: &str = "state words out of their field's range";
 pub const FAILED_WRITE: &str = "a write that fails";
 pub const AFTER_TRAILER: &str = "a packet or trailer after the trailer";

@@ -5,23 +5,15 @@ use plain::words::WalkerWords;
 use plain::{AUDIO, COUNT_LIMIT, RECORD, VIDEO};
 
 use crate::calls;
-use crate::files::{self, LIMIT};
-use crate::pages::{self, NEAR};
+use crate::files;
+use crate::pages;
 use crate::rules;
 use crate::said::{Said, refused};
 use crate::tally::Tally;
 
-/// The bytes of the greatest offset, the highest first: 4 times 2^32.
-const GREATEST_OFFSET: [u8; 8] = [0, 0, 0, 4, 0, 0, 0, 0];
-
-/// Where the first record stands that has another tag, 2^62 samples or more, so that either of the two highest bits is set, or an offset past
-/// the file limit.
+/// Where the first record stands that has another tag, or 2^62 samples or more: either of the two highest bits is then set.
 pub fn bad_record(table: &[u8]) -> Option<u64> {
-    let bad = |record: &[u8]| {
-        let (tag, offset, samples) = (&record[..4], &record[4..12], &record[20..28]);
-        let known = tag == b"00dc" || tag == b"01wb";
-        !known || samples[7] >= 0x40 || offset.iter().rev().gt(&GREATEST_OFFSET)
-    };
+    let bad = |record: &[u8]| !matches!(&record[..4], b"00dc" | b"01wb") || record[23] >= 0x40;
     let found = table.chunks_exact(RECORD).position(bad);
     found.map(|i| (RECORD * i) as u64)
 }
@@ -32,7 +24,7 @@ fn by_01(table: &[u8], walker: &WalkerWords, stream: u32) -> Option<(u32, u64)> 
     let most = [cursor, frames, samples, blocks].into_iter().max();
     let questions = [
         (1, (end > 1 || cut > 1).then_some(0)),
-        (41, (!table.len().is_multiple_of(RECORD)).then_some(0)),
+        (41, (table.len() % RECORD > 0).then_some(0)),
         (42, (stream > 1).then_some(0)),
         (43, bad_record(table)),
         (32, (most > Some(1 << 62)).then_some(0)),
@@ -64,16 +56,10 @@ pub fn stands(
 /// no walker; streams that exist and not, among them those of which 8 or 16 bits would be one that does.
 pub fn short(tally: &mut Tally) {
     let kinds = [
-        (VIDEO, NEAR, 0),
-        (AUDIO, NEAR, COUNT_LIMIT - 1),
-        (AUDIO, NEAR, COUNT_LIMIT),
-        (0, NEAR, 0),
-        (VIDEO, 1 << 32, 0),
-        (AUDIO, LIMIT, 9),
-        (VIDEO, LIMIT + 1, 0),
-        (VIDEO, 1 << 63, 0),
-        (AUDIO, u64::MAX, COUNT_LIMIT),
-        (0, LIMIT, 0),
+        (VIDEO, 0),
+        (AUDIO, COUNT_LIMIT - 1),
+        (AUDIO, COUNT_LIMIT),
+        (0, 0),
     ];
     for count in 0..=3 {
         files::all_lists(&kinds, count, |kinds| {

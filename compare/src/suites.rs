@@ -5,7 +5,7 @@ use plain::{AUDIO, PRELUDE, RECORD, Record, VIDEO, Walker, Writer};
 
 use crate::calls::{self, Guarded};
 use crate::cuts;
-use crate::files::{self, LIMIT};
+use crate::files;
 use crate::jumps;
 use crate::lists;
 use crate::original;
@@ -17,7 +17,6 @@ use crate::said::Write;
 use crate::seeks;
 use crate::sounds;
 use crate::tally::Tally;
-use crate::widen;
 
 /// Everything that reads a file: both parses, the check, the summary, the index, reads until the end, and a list of reads and jumps.
 pub fn whole_file(tally: &mut Tally, bytes: &[u8], table_slack: usize) {
@@ -38,7 +37,6 @@ pub fn movi(tally: &mut Tally, file: &[u8], table_slack: usize) {
     calls::build_chunk_index(tally, &mut original, file, table_len);
     calls::before_unknown_tag(tally, file);
     pages::of_index(tally, file, count);
-    widen::of_file(tally, file);
     let mut walker = words::walker_words(&Walker::fresh());
     for _ in 0..count + 2 {
         let said = calls::next_packet(tally, &mut original, file, &mut walker);
@@ -58,7 +56,6 @@ pub fn exhaustive(tally: &mut Tally, random: &mut Random) {
     run_lengths(tally);
     seeks::short(tally);
     registers::short(tally);
-    widen::short(tally);
     pages::short(tally);
     sounds::short(tally);
     cuts::short(tally);
@@ -167,8 +164,6 @@ pub fn round(tally: &mut Tally, random: &mut Random) {
     tables(tally, random);
     registers::round(tally, random, &file);
     jumps::round(tally, random, &file);
-    widen::round(tally, random);
-    widen::jumps(tally, random, &file);
     pages::round(tally, random);
     sounds::round(tally, random);
     writers(tally, random);
@@ -178,7 +173,6 @@ pub fn round(tally: &mut Tally, random: &mut Random) {
     lists::reads_and_seeks(tally, random, &file);
     registers::finished(tally, random, &file);
     pages::of_recording(tally, &file);
-    widen::jumps(tally, random, &file);
     cuts::round(tally, random, &file);
     jumps::cut_round(tally, random, &file);
 }
@@ -222,7 +216,7 @@ pub fn random_walker(random: &mut Random, file_len: u64) -> WalkerWords {
 fn walkers(tally: &mut Tally, random: &mut Random, file: &[u8]) {
     let mut original = original::File::new(file);
     let offsets: Vec<u64> = plain::records(file)
-        .map(|records| records.iter().map(|record| record.offset).collect())
+        .map(|records| records.iter().map(|record| record.offset as u64).collect())
         .unwrap_or_default();
     for _ in 0..4 {
         calls::read_by_header(tally, file, random.size(file.len() + 1));
@@ -249,11 +243,7 @@ fn random_record(random: &mut Random, good: bool) -> Record {
         } else {
             random.word32()
         },
-        offset: if good {
-            random.offset().min(LIMIT)
-        } else {
-            random.offset()
-        },
+        offset: random.word32(),
         frames: if random.once_in(2) {
             random.below(20) as u32
         } else {

@@ -66,17 +66,8 @@ impl Tally {
     }
 }
 
-/// So many bytes are shown in full, and of longer ones some of the first and of the last.
-const FULL: usize = 1 << 17;
-
 /// How many bytes, and what they are.
 pub fn hex(bytes: &[u8]) -> String {
-    let text =
-        |bytes: &[u8]| -> String { bytes.iter().map(|byte| format!("{byte:02x}")).collect() };
-    let length = bytes.len();
-    if length <= FULL {
-        return format!("{length} bytes {}", text(bytes));
-    }
-    let (first, last) = (text(&bytes[..400]), text(&bytes[length - 80..]));
-    format!("{length} bytes {first}..{last}")
+    let text: String = bytes.iter().map(|byte| format!("{byte:02x}")).collect();
+    format!("{} bytes {text}", bytes.len())
 }

@@ -36,10 +36,9 @@ const PRINT_INDEX: (u8, &str) = (13, "print_index");
 const DECODE_BLOCK: (u8, &str) = (14, "decode_block");
 const CHUNK_HEADER: (u8, &str) = (15, "chunk_header");
 const REGISTER_STEP: (u8, &str) = (16, "register_step");
-const WIDEN_INDEX: (u8, &str) = (17, "widen_index");
 
 /// In the order of the counts that the program prints last.
-const FUNCTIONS: [(u8, &str); 17] = [
+const FUNCTIONS: [(u8, &str); 16] = [
     PARSE,
     NEXT_PACKET,
     BUILD_CHUNK_INDEX,
@@ -56,7 +55,6 @@ const FUNCTIONS: [(u8, &str); 17] = [
     DECODE_BLOCK,
     CHUNK_HEADER,
     REGISTER_STEP,
-    WIDEN_INDEX,
 ];
 
 /// Where the tags, sizes and bodies of a prelude start.
@@ -73,7 +71,7 @@ const CALLS: usize = 524_288;
 struct Cases {
     calls: Vec<u8>,
     printed: String,
-    counts: [u64; 18],
+    counts: [u64; 17],
     /// How many calls were not taken, since the original answers otherwise.
     left_out: u64,
 }
@@ -387,15 +385,12 @@ fn chunks(cases: &mut Cases) {
     }
     for file in files::shapes() {
         drain(cases, &file);
-        build_chunk_index(cases, &file, 28);
+        build_chunk_index(cases, &file, 24);
     }
     let mut unknown = example.clone();
     unknown[327] = b'x';
     drain(cases, &unknown);
-    build_chunk_index(cases, &unknown, 56);
-    // The samples before the last need more than 32 bits.
-    let long = &[0, 0, 0, 0, 0xff, 0xff, 0xff, 0xff][..];
-    build_chunk_index(cases, &files::recording(&[(AUDIO, long); 3]), 0);
+    build_chunk_index(cases, &unknown, 48);
     let limit = plain::COUNT_LIMIT;
     for walker in [
         [limit, 0, 0, 0, 0, 0, u64::MAX],
@@ -425,18 +420,16 @@ fn jumps(cases: &mut Cases) {
             }
         }
     }
-    for offset in [u32::MAX.into(), 1 << 32, files::LIMIT] {
-        let largest = plain::Record {
-            tag: AUDIO,
-            offset,
-            frames: u32::MAX,
-            blocks: u32::MAX,
-            samples: plain::COUNT_LIMIT - 1,
-        }
-        .bytes();
-        for request in [i64::MAX, (plain::COUNT_LIMIT - 1) as i64] {
-            seek_to_via_index(cases, &largest, fresh, 1, request);
-        }
+    let largest = plain::Record {
+        tag: AUDIO,
+        offset: u32::MAX,
+        frames: u32::MAX,
+        blocks: u32::MAX,
+        samples: plain::COUNT_LIMIT - 1,
+    }
+    .bytes();
+    for request in [i64::MAX, (plain::COUNT_LIMIT - 1) as i64] {
+        seek_to_via_index(cases, &largest, fresh, 1, request);
     }
 }
 

@@ -3,8 +3,6 @@
  *
  *   panel play FILE PICTURE   opens it, builds the index, jumps to a picture and plays on with the sound that belongs to it. Any file
  *                             with the format's layout will do: cut, damaged, or written by another program.
- *   panel widen FILE PICTURE  finds an index beside it that was stored before version 0.5, in 24-byte records, widens it, and jumps and plays on with
- *                             that one.
  *   panel print FILE          prints its index on the strip printer, to be pinned beside the vat.
  *   panel hear FILE           decodes its sound block by block, and shows how loud each one is.
  *   panel drive FILE PICTURE  has a controller seek to a picture and read on to the end, through the 16 bytes of the register block.
@@ -38,7 +36,6 @@ static void show_refusal(const char *what, uint32_t number, const uint64_t *out)
     printf("%s: refused with %" PRIu32 " at %" PRIu64 ". %s No.\n", what, number, out[AMV_PLACE], amv_question(number));
 }
 
-/* Reads all of a file. A panel whose recordings are longer than its memory maps the file instead, and lends the mapping. */
 static bool read_file(const char *name, struct recording *r)
 {
     FILE *from = fopen(name, "rb");
@@ -71,7 +68,6 @@ static bool open_recording(const char *name, struct recording *r)
     uint32_t number = amv_parse(r->file, r->len, false, out);
     if (number != AMV_OK) {
         show_refusal(name, number, out);
-        free(r->file);
         return false;
     }
     printf("%s: %" PRIu64 " x %" PRIu64 ", %" PRIu64 " pictures a second, sound at %" PRIu64 " Hz\n", name, out[AMV_PARSE_WIDTH],
@@ -128,18 +124,6 @@ static bool build_index(struct recording *r, struct table *table)
         free(table->records);
     }
     return number == AMV_OK;
-}
-
-/* Opens a recording and builds its index; where that fails nothing is kept. */
-static bool open_indexed(const char *name, struct recording *r, struct table *table)
-{
-    if (!open_recording(name, r))
-        return false;
-    if (!build_index(r, table)) {
-        free(r->file);
-        return false;
-    }
-    return true;
 }
 
 /* The clock of a picture, to hundredths of a second; without a rate there is none. */
@@ -199,104 +183,25 @@ static bool jump(const struct table *table, uint64_t walker[AMV_WALKER_WORDS], i
     return true;
 }
 
-/* Jumps to a picture by an index, and plays on. */
-static bool play_from(const struct recording *r, const struct table *table, int64_t picture)
-{
-    uint64_t walker[AMV_WALKER_WORDS] = AMV_FRESH_WALKER;
-    if (!jump(table, walker, picture))
-        return false;
-    if (walker[AMV_WALKER_END])
-        return true;
-    /* The index can have a record of the chunk in which the file ends, and a jump can go there. */
-    if (play_on(r, walker, 4, true) == 0)
-        printf("  the file ends inside this picture\n");
-    printf("  and %" PRIu64 " more to the end\n", play_on(r, walker, UINT64_MAX, false));
-    if (walker[AMV_WALKER_CUT])
-        printf("the recording is cut: it ends before its trailer, at byte %zu\n", r->len);
-    return true;
-}
-
 static int play(const char *name, int64_t picture)
 {
     struct recording r;
     struct table table;
-    if (!open_indexed(name, &r, &table))
+    uint64_t walker[AMV_WALKER_WORDS] = AMV_FRESH_WALKER;
+    if (!open_recording(name, &r) || !build_index(&r, &table))
         return 1;
-    bool played = play_from(&r, &table, picture);
+    bool jumped = jump(&table, walker, picture);
+    if (jumped && !walker[AMV_WALKER_END]) {
+        /* The index can have a record of the chunk in which the file ends, and a jump can go there. */
+        if (play_on(&r, walker, 4, true) == 0)
+            printf("  the file ends inside this picture\n");
+        printf("  and %" PRIu64 " more to the end\n", play_on(&r, walker, UINT64_MAX, false));
+        if (walker[AMV_WALKER_CUT])
+            printf("the recording is cut: it ends before its trailer, at byte %zu\n", r.len);
+    }
     free(table.records);
     free(r.file);
-    return played ? 0 : 1;
-}
-
-/* Stands in for the old index that a panel finds beside a recording: the records of the index as they were stored before version 0.5, without the
- * upper half of each offset. */
-static bool find_old_index(const struct table *table, struct table *old)
-{
-    const size_t before = AMV_ENTRY_OFFSET + 4; /* the tag, and the lower half of the offset */
-    size_t count = table->len / AMV_ENTRY_LEN;
-    old->len = AMV_OLD_ENTRY_LEN * count;
-    old->records = malloc(old->len + 1);
-    if (old->records == NULL) {
-        perror("old index");
-        return false;
-    }
-    for (size_t i = 0; i < count; i++) {
-        const uint8_t *from = table->records + AMV_ENTRY_LEN * i;
-        uint8_t *to = old->records + AMV_OLD_ENTRY_LEN * i;
-        memcpy(to, from, before);
-        memcpy(to + before, from + AMV_ENTRY_FRAMES, AMV_ENTRY_LEN - AMV_ENTRY_FRAMES);
-    }
-    return true;
-}
-
-/* Widens an old index, to be done once. Nothing in a table says how wide its records are: that this one is old, the panel must know. */
-static bool widen_index(const struct table *old, struct table *table)
-{
-    uint64_t out[AMV_WIDEN_WORDS];
-    size_t room = old->len / AMV_OLD_ENTRY_LEN * AMV_ENTRY_LEN;
-    table->records = malloc(room + 1);
-    if (table->records == NULL) {
-        perror("index");
-        return false;
-    }
-    uint32_t number = amv_widen_index(old->records, old->len, table->records, room, out);
-    table->len = AMV_ENTRY_LEN * (size_t)out[AMV_WIDEN_COUNT];
-    if (number != AMV_OK) {
-        show_refusal("widen", number, out);
-        free(table->records);
-        return false;
-    }
-    printf("widened %" PRIu64 " records, from %zu bytes to %zu\n", out[AMV_WIDEN_COUNT], old->len, table->len);
-    return true;
-}
-
-/* Jumps and plays on by an old index. As it is, it would be refused; widened, it is the index that is built now. */
-static bool play_widened(const struct recording *r, const struct table *built, const struct table *old, int64_t picture)
-{
-    struct table table;
-    if (!widen_index(old, &table))
-        return false;
-    bool same = table.len == built->len && memcmp(table.records, built->records, table.len) == 0;
-    printf("it is %s index that is built now\n", same ? "the" : "not the");
-    bool played = play_from(r, &table, picture);
-    free(table.records);
-    return same && played;
-}
-
-static int widen(const char *name, int64_t picture)
-{
-    struct recording r;
-    struct table built, old;
-    bool played = false;
-    if (!open_indexed(name, &r, &built))
-        return 1;
-    if (find_old_index(&built, &old)) {
-        played = play_widened(&r, &built, &old, picture);
-        free(old.records);
-    }
-    free(built.records);
-    free(r.file);
-    return played ? 0 : 1;
+    return jumped ? 0 : 1;
 }
 
 /* The strip printer, for which standard output stands in: it is fed with 40 columns, and moves on by a line. */
@@ -329,7 +234,7 @@ static int print_index(const char *name)
 {
     struct recording r;
     struct table table;
-    if (!open_indexed(name, &r, &table))
+    if (!open_recording(name, &r) || !build_index(&r, &table))
         return 1;
     bool printed = print_page(&table);
     free(table.records);
@@ -530,12 +435,9 @@ static bool open_reader(const char *name, struct reader *reader)
     if (!open_recording(name, &reader->r))
         return false;
     size_t len = reader->r.len;
-    if (!build_index(&reader->r, &reader->table)) {
-        free(reader->r.file);
-        return false;
-    }
+    bool built = build_index(&reader->r, &reader->table);
     reader->r.len = len;
-    return true;
+    return built;
 }
 
 /* Runs a step. It is refused where the block or its command is none; a read or seek that is refused is told in the block alone. */
@@ -606,8 +508,6 @@ int main(int argc, char **argv)
 {
     if (argc == 4 && strcmp(argv[1], "play") == 0)
         return play(argv[2], strtoll(argv[3], NULL, 10));
-    if (argc == 4 && strcmp(argv[1], "widen") == 0)
-        return widen(argv[2], strtoll(argv[3], NULL, 10));
     if (argc == 3 && strcmp(argv[1], "print") == 0)
         return print_index(argv[2]);
     if (argc == 3 && strcmp(argv[1], "hear") == 0)
@@ -616,7 +516,7 @@ int main(int argc, char **argv)
         return drive(argv[2], strtoll(argv[3], NULL, 10));
     if (argc == 3 && strcmp(argv[1], "check") == 0)
         return check(argv[2]);
-    fprintf(stderr, "usage: panel play FILE PICTURE\n       panel widen FILE PICTURE\n       panel print FILE\n       panel hear FILE\n"
-                    "       panel drive FILE PICTURE\n       panel check FILE\n");
+    fprintf(stderr, "usage: panel play FILE PICTURE\n       panel print FILE\n       panel hear FILE\n       panel drive FILE PICTURE\n"
+                    "       panel check FILE\n");
     return 2;
 }

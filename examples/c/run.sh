@@ -1,9 +1,8 @@
 #!/bin/sh
 # Builds the library and the two programs; records; checks and plays the recording, one that was cut, one that was cut inside the picture
-# that is jumped to, one that is damaged, and one as another program would write it; plays the recording by an index of before version 0.5,
-# widened; prints the index of the recording; hears it, and the start of one with a block that is refused; drives a reader by registers over
-# the recording and the one that was cut, to a picture that is there and to one past the end, and over the damaged one. Standard output is
-# what expected.txt stores.
+# that is jumped to, one that is damaged, and one as another program would write it; prints the index of the recording; hears it, and the
+# start of one with a block that is refused; drives a reader by registers over the recording and the one that was cut, to a picture that is
+# there and to one past the end, and over the damaged one. Standard output is what expected.txt stores.
 set -eu
 root=$(dirname -- "$(readlink -f -- "$0")")/../..
 root=$(readlink -f -- "$root") me=example
@@ -32,8 +31,6 @@ for name in vat cut inside damaged other; do
     ./panel check $name.amv || echo "(no finished recording)"
     ./panel play $name.amv 12
 done
-echo
-./panel widen vat.amv 12
 echo
 ./panel print vat.amv
 echo

@@ -42,12 +42,6 @@ pub fn register_step(
     crate::register_step(file, table, walker, block)
 }
 
-/// An old table, widened.
-#[inline(never)]
-pub fn widen_index(old: &[u8], table: &mut [u8]) -> Answer<u64> {
-    crate::widen_index(old, table)
-}
-
 /// The page.
 #[inline(never)]
 pub fn print_index(table: &[u8], page: &mut [u8]) -> Answer<u64> {

@@ -2,8 +2,7 @@
 
 use crate::head::{count_of, head_at};
 use crate::within_limit;
-use crate::{AUDIO, Answer, COUNT_LIMIT, FILE_LIMIT, OLD_RECORD, PRELUDE, RECORD, VIDEO};
-use crate::{ask, refuse, u32_at, u64_at};
+use crate::{AUDIO, Answer, COUNT_LIMIT, PRELUDE, RECORD, VIDEO, ask, refuse, u32_at, u64_at};
 
 /// A record of the index: a chunk, and what stands before it.
 #[derive(Clone, Copy, Debug, PartialEq, Eq)]
@@ -11,7 +10,7 @@ pub struct Record {
     /// The chunk's tag.
     pub tag: u32,
     /// The chunk's offset.
-    pub offset: u64,
+    pub offset: u32,
     /// The frames before it.
     pub frames: u32,
     /// The blocks before it.
@@ -25,10 +24,10 @@ impl Record {
     pub fn bytes(&self) -> [u8; RECORD] {
         let mut bytes = [0; RECORD];
         bytes[0..4].copy_from_slice(&self.tag.to_le_bytes());
-        bytes[4..12].copy_from_slice(&self.offset.to_le_bytes());
-        bytes[12..16].copy_from_slice(&self.frames.to_le_bytes());
-        bytes[16..20].copy_from_slice(&self.blocks.to_le_bytes());
-        bytes[20..28].copy_from_slice(&self.samples.to_le_bytes());
+        bytes[4..8].copy_from_slice(&self.offset.to_le_bytes());
+        bytes[8..12].copy_from_slice(&self.frames.to_le_bytes());
+        bytes[12..16].copy_from_slice(&self.blocks.to_le_bytes());
+        bytes[16..24].copy_from_slice(&self.samples.to_le_bytes());
         bytes
     }
 
@@ -36,28 +35,16 @@ impl Record {
     pub fn read(bytes: &[u8; RECORD]) -> Self {
         Self {
             tag: u32_at(bytes, 0),
-            offset: u64_at(bytes, 4),
-            frames: u32_at(bytes, 12),
-            blocks: u32_at(bytes, 16),
-            samples: u64_at(bytes, 20),
-        }
-    }
-
-    /// The record that an old table has there.
-    pub(crate) fn read_old(bytes: &[u8; OLD_RECORD]) -> Self {
-        Self {
-            tag: u32_at(bytes, 0),
-            offset: u64::from(u32_at(bytes, 4)),
+            offset: u32_at(bytes, 4),
             frames: u32_at(bytes, 8),
             blocks: u32_at(bytes, 12),
             samples: u64_at(bytes, 16),
         }
     }
 
-    /// Whether a table may have it: a known tag, fewer than 2^62 samples, and an offset that is at most the file limit.
+    /// Whether a table may have it: a known tag, and fewer than 2^62 samples.
     fn is_good(&self) -> bool {
-        let known = self.tag == VIDEO || self.tag == AUDIO;
-        known & (self.samples < COUNT_LIMIT) & (self.offset <= FILE_LIMIT as u64)
+        (self.tag == VIDEO || self.tag == AUDIO) && self.samples < COUNT_LIMIT
     }
 
     /// The stamp of a record of the stream.
@@ -91,7 +78,7 @@ fn walk(file: &[u8], mut each: impl FnMut(Record, bool)) -> Answer<()> {
         };
         let record = Record {
             tag,
-            offset: at as u64,
+            offset: at as u32,
             frames,
             blocks,
             samples,

@@ -17,8 +17,6 @@
 //! - M-100, a page for the printer: `page`; what it asks of a table first, and a jump too, is `good_records` in `index`
 //! - M-101, hear the paste: `sound`, by the rule, which is compared, and by a table, which is timed
 //! - M-106, the register block: `registers`, over a read and a jump
-//! - M-108, sixteen GiB: the limit and the record's length below, the record in `index`, offsets too wide to print in `page`, old tables
-//!   in `widen`
 //!
 //! Where a call on a state asks questions first and then acts, the acting part is a function of its own. The rules for known differences
 //! in `compare/` use it to say what the original, which does not ask, answers instead.
@@ -37,7 +35,6 @@ mod registers;
 mod seek;
 mod sound;
 mod walker;
-mod widen;
 pub mod words;
 mod writer;
 
@@ -49,7 +46,6 @@ pub use registers::{REGISTERS, register_step};
 pub use seek::{jump, seek_to_via_index};
 pub use sound::{PREAMBLE, STEPS, decode_block, decode_block_by_table};
 pub use walker::{Packet, Walker, next_packet, read_on};
-pub use widen::widen_index;
 pub use writer::{Writer, from_frame_count};
 
 /// A refusal: the number of the question that was answered with no, and the place.
@@ -74,15 +70,13 @@ pub fn ask(yes: bool, number: u32, place: u64) -> Answer<()> {
 }
 
 /// The longest file, in bytes.
-pub const FILE_LIMIT: usize = 17_179_869_184;
+pub const FILE_LIMIT: usize = 4_294_967_295;
 /// The largest cursor and counts of a walker.
 pub const COUNT_LIMIT: u64 = 1 << 62;
 /// The length of the prelude, which is where the first chunk stands.
 pub const PRELUDE: usize = 316;
 /// The length of a record of the index.
-pub const RECORD: usize = 28;
-/// The length of a record of an old table, from before M-108, when an offset had 4 bytes.
-pub const OLD_RECORD: usize = 24;
+pub const RECORD: usize = 24;
 /// The tag of a frame.
 pub const VIDEO: u32 = u32::from_le_bytes(*b"00dc");
 /// The tag of a block.

@@ -8,26 +8,19 @@ pub const LINE: usize = 40;
 
 /// So many samples have 19 digits, and a line shows 18.
 const SAMPLES_LIMIT: u64 = 1_000_000_000_000_000_000;
-/// Such an offset has 11 digits, and a line shows 10.
-const OFFSET_LIMIT: u64 = 10_000_000_000;
 
-/// Writes a line for each record of a table into a page, and gives their number. Refuses with 41, 43, 70, 76 and 40.
+/// Writes a line for each record of a table into a page, and gives their number. Refuses with 41, 43, 70 and 40.
 #[inline]
 pub fn print_index(table: &[u8], page: &mut [u8]) -> Answer<u64> {
-    // Each question is asked of the whole table before the next, so the places of a 70 and a 76 wait for the end of the pass.
-    let (mut too_many, mut too_far) = (None, None);
+    // 43 is asked of the whole table before 70, so the place of a 70 waits for the end of the pass.
+    let mut too_many = None;
     let records = good_records(table, |place, record| {
         if record.samples >= SAMPLES_LIMIT {
             too_many.get_or_insert(place);
         }
-        if record.offset >= OFFSET_LIMIT {
-            too_far.get_or_insert(place);
-        }
     })?;
-    for (number, place) in [(70, too_many), (76, too_far)] {
-        if let Some(place) = place {
-            return refuse(number, place);
-        }
+    if let Some(place) = too_many {
+        return refuse(70, place);
     }
     let (lines, _) = page.as_chunks_mut();
     ask(lines.len() >= records.len(), 40, 0)?;
@@ -41,7 +34,7 @@ pub fn print_index(table: &[u8], page: &mut [u8]) -> Answer<u64> {
 fn put_line(line: &mut [u8; LINE], record: &Record) {
     *line = [b' '; LINE];
     line[0] = if record.tag == VIDEO { b'V' } else { b'A' };
-    put_number(&mut line[1..11], record.offset);
+    put_number(&mut line[1..11], record.offset as u64);
     put_number(&mut line[11..21], record.frames as u64);
     put_number(&mut line[21..40], record.samples);
 }

@@ -18,7 +18,7 @@ pub fn seek_to_via_index(
     Ok(jump(records, walker, stream, request))
 }
 
-/// A jump after its questions. A record that they turn away is taken as the original takes it, and its sum wraps as there.
+/// A jump after its questions.
 #[inline]
 pub fn jump(records: &[[u8; RECORD]], walker: &mut Walker, stream: u32, request: i64) -> u64 {
     let tag = stream_tag(stream);
@@ -27,7 +27,7 @@ pub fn jump(records: &[[u8; RECORD]], walker: &mut Walker, stream: u32, request:
         .map(Record::read)
         .find(|record| record.tag == tag && record.stamp(stream) as i64 >= request);
     if let Some(record) = found {
-        walker.cursor = record.offset;
+        walker.cursor = record.offset as u64;
         walker.frames = record.frames as u64;
         walker.samples = record.samples;
         walker.blocks = record.blocks as u64;
@@ -35,7 +35,7 @@ pub fn jump(records: &[[u8; RECORD]], walker: &mut Walker, stream: u32, request:
         return record.stamp(stream);
     }
     if let Some(last) = records.last().map(Record::read) {
-        walker.cursor = last.offset.wrapping_add(8);
+        walker.cursor = last.offset as u64 + 8;
         walker.frames = last.frames as u64 + (last.tag == VIDEO) as u64;
         walker.samples = last.samples;
         walker.blocks = last.blocks as u64 + (last.tag == AUDIO) as u64;

@@ -302,21 +302,6 @@ pub unsafe extern "C" fn register_step(
     }
 }
 
-/// An old table, widened.
-#[inline(never)]
-pub unsafe extern "C" fn widen_index(
-    old: *const u8,
-    old_len: usize,
-    table: *mut u8,
-    table_len: usize,
-    out: *mut [u64; 2],
-) -> u32 {
-    unsafe {
-        let count = crate::widen_index(slice(old, old_len), slice_mut(table, table_len));
-        store(count, out, |count| [0, count])
-    }
-}
-
 /// The page.
 #[inline(never)]
 pub unsafe extern "C" fn print_index(

@@ -40,9 +40,6 @@ impl std::error::Error for AmvError {}
 /// What a call gives, or its refusal.
 pub type Result<T> = std::result::Result<T, AmvError>;
 
-/// The longest length of a file in bytes, 16 GiB: a longer one is refused with 10, and no record may have a greater offset.
-pub const FILE_LIMIT: u64 = 17_179_869_184;
-
 /// A call's words where it was accepted, else its refusal, whose place is the first word.
 fn answer<const N: usize>(number: u32, out: [u64; N]) -> Result<[u64; N]> {
     match number {
@@ -156,10 +153,7 @@ pub struct Packet<'a> {
     pub duration: Option<u64>,
 }
 
-/// The records of a file's index, 28 bytes each.
-///
-/// They have no header, and nothing in them says how wide they are. Whoever stores them must know: [`ChunkIndexEntry::LEN`] bytes each from version
-/// 0.5 on, and [`ChunkIndexEntry::OLD_LEN`], 24, before. [`ChunkIndex::from_records`] takes those of now, [`ChunkIndex::widen`] those of before.
+/// The records of a file's index, 24 bytes each.
 #[derive(Clone, Debug, PartialEq, Eq)]
 pub struct ChunkIndex {
     records: Vec<u8>,
@@ -171,7 +165,7 @@ pub struct ChunkIndexEntry {
     /// The chunk's tag as a number, little-endian.
     pub tag: u32,
     /// The chunk's offset in the file.
-    pub file_offset: u64,
+    pub file_offset: u32,
     /// The frames before it.
     pub video_pts_before: u32,
     /// The blocks before it.
@@ -182,9 +176,7 @@ pub struct ChunkIndexEntry {
 
 impl ChunkIndexEntry {
     /// The bytes of a record.
-    pub const LEN: usize = 28;
-    /// The bytes of a record before version 0.5, whose offset had 4 of them: what [`widen_index`] takes.
-    pub const OLD_LEN: usize = 24;
+    pub const LEN: usize = 24;
 }
 
 impl ChunkIndex {
@@ -210,33 +202,7 @@ impl ChunkIndex {
         Ok(ChunkIndex { records })
     }
 
-    /// The index of records that were stored before version 0.5, with 24 bytes each. Refuses with 41.
-    ///
-    /// Of every file of at most 4,294,967,295 bytes that has an index it is proved: its old one, widened, is what [`ChunkIndex::build`] gives now. So
-    /// the file need not be walked again. Widen records once, and keep what comes out.
-    ///
-    /// ```
-    /// // A picture at 316 and sound at 327, as version 0.4 stored them.
-    /// let old = [
-    ///     *b"00dc\x3C\x01\0\0\0\0\0\0\0\0\0\0\0\0\0\0\0\0\0\0",
-    ///     *b"01wb\x47\x01\0\0\x01\0\0\0\0\0\0\0\0\0\0\0\0\0\0\0",
-    /// ]
-    /// .concat();
-    /// let index = amv::ChunkIndex::widen(&old)?;
-    /// let offsets: Vec<_> = index.entries().map(|entry| entry.file_offset).collect();
-    /// assert_eq!(offsets, [316, 327]);
-    /// # Ok::<(), amv::AmvError>(())
-    /// ```
-    pub fn widen(old: &[u8]) -> Result<ChunkIndex> {
-        let count = old.len() / ChunkIndexEntry::OLD_LEN;
-        let mut records = vec![0; count * ChunkIndexEntry::LEN];
-        widen_index(old, &mut records)?;
-        Ok(ChunkIndex { records })
-    }
-
-    /// Records from elsewhere, of 28 bytes each, taken as they are: a jump over them, and their page, ask whether they are good. An old index that has
-    /// records, of 24 bytes, is refused by both: with 41, or with 43 where their number is a multiple of 7. That is not a check of the width: one that
-    /// is damaged could pass.
+    /// Records from elsewhere, taken as they are: a jump over them, and their page, ask whether they are good.
     pub fn from_records(records: Vec<u8>) -> ChunkIndex {
         ChunkIndex { records }
     }
@@ -250,21 +216,19 @@ impl ChunkIndex {
     pub fn entries(&self) -> impl Iterator<Item = ChunkIndexEntry> + '_ {
         let word =
             |r: &[u8], at: usize| u32::from_le_bytes([r[at], r[at + 1], r[at + 2], r[at + 3]]);
-        let long = move |r: &[u8], at: usize| word(r, at) as u64 | (word(r, at + 4) as u64) << 32;
         self.records
             .chunks_exact(ChunkIndexEntry::LEN)
             .map(move |r| ChunkIndexEntry {
                 tag: word(r, 0),
-                file_offset: long(r, 4),
-                video_pts_before: word(r, 12),
-                audio_blocks_before: word(r, 16),
-                audio_pts_before: long(r, 20),
+                file_offset: word(r, 4),
+                video_pts_before: word(r, 8),
+                audio_blocks_before: word(r, 12),
+                audio_pts_before: word(r, 16) as u64 | (word(r, 20) as u64) << 32,
             })
     }
 
-    /// The page of the index for a strip printer. Refuses with 70 where a record has too many samples before it for its columns, with 76 where its
-    /// offset is over 9,999,999,999, and records from elsewhere with 41 and 43 too. What stands before the place of 76 has a page:
-    /// `ChunkIndex::from_records(index.records()[..place].to_vec())`.
+    /// The page of the index for a strip printer. Refuses with 70 where a record has too many samples before it for its columns, and
+    /// records from elsewhere with 41 and 43 too.
     pub fn print(&self) -> Result<Page> {
         let count = self.records.len() / ChunkIndexEntry::LEN;
         let mut page = vec![b' '; count * Page::COLUMNS];
@@ -300,36 +264,8 @@ impl Page {
     }
 }
 
-/// Widens the records of an index that was stored before version 0.5: writes them to the front of a lent table with 28 bytes each, where they have 24
-/// in `old`, each field with the number that it had, and gives their number; the bytes after them stay. Nothing is asked about tags, samples and
-/// offsets, which a jump asks about. Refuses with 41, in records of 24 bytes, and 40. [`ChunkIndex::widen`] lends a table of its own.
-///
-/// ```
-/// let old = [7; 2 * amv::ChunkIndexEntry::OLD_LEN];
-/// let mut table = [1; 2 * amv::ChunkIndexEntry::LEN + 3];
-/// assert_eq!(amv::widen_index(&old, &mut table), Ok(2));
-/// assert_eq!(table[..12], [7, 7, 7, 7, 7, 7, 7, 7, 0, 0, 0, 0]);
-/// assert_eq!(table[12..28], [7; 16]);
-/// assert_eq!(table[56..], [1; 3]);
-/// let refused = amv::widen_index(&old, &mut table[..55]).unwrap_err();
-/// assert_eq!(refused.number, amv::AmvError::TABLE_TOO_SHORT);
-/// ```
-pub fn widen_index(old: &[u8], table: &mut [u8]) -> Result<usize> {
-    let mut out = [0; 2];
-    let number = unsafe {
-        sys::amv_widen_index(
-            old.as_ptr(),
-            old.len(),
-            table.as_mut_ptr(),
-            table.len(),
-            &mut out,
-        )
-    };
-    answer(number, out).map(|w| w[1] as usize)
-}
-
 /// Prints the records of an index to the front of a lent page, a line for each as [`Page`] has it, and gives the number of lines; the bytes
-/// after them stay. Refuses with 41, 43, 70, 76 and 40.
+/// after them stay. Refuses with 41, 43, 70 and 40.
 pub fn print_index(table: &[u8], page: &mut [u8]) -> Result<usize> {
     let mut out = [0; 2];
     let number = unsafe {

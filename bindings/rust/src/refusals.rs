@@ -33,7 +33,7 @@ macro_rules! refusals {
 refusals! {
     (1, ILLEGAL_STATE, "Is each word of the state in its field's range: marks 0 or 1, width, height, fps and rate within 32 bits, channels within 16?", "0"),
     // The file
-    (10, FILE_TOO_LONG, "Has the file at most 17,179,869,184 bytes?", "0"),
+    (10, FILE_TOO_LONG, "Has the file at most 4,294,967,295 bytes?", "0"),
     // The prelude
     (11, PRELUDE_CUT, "Does the file reach the end of this tag, size or body of the prelude?", "its start"),
     (12, WRONG_TAG, "Is the tag the one that belongs here?", "its start"),
@@ -59,10 +59,9 @@ refusals! {
     (31, UNKNOWN_TAG, "Is the tag 00dc or 01wb, a picture's or sound's?", "the chunk's offset"),
     (32, STATE_OUT_OF_RANGE, "Are cursor, frames, samples and blocks each at most 2^62?", "0"),
     (40, TABLE_TOO_SHORT, "Does the table hold all records, or the page all lines?", "0"),
-    (41, TABLE_RAGGED, "Is the table whole records: of 28 bytes, or of 24 if it is to be widened?", "0"),
+    (41, TABLE_RAGGED, "Is the table whole records of 24 bytes?", "0"),
     (42, NO_SUCH_STREAM, "Is the stream of the jump 0 or 1?", "0"),
-    (43, BAD_RECORD, "Has the record a known tag, fewer than 2^62 samples before it, and an offset of at most 17,179,869,184?",
-        "the record's start in the table"),
+    (43, BAD_RECORD, "Has the record a known tag, and fewer than 2^62 samples before it?", "the record's start in the table"),
     // Writing
     (50, ALREADY_BEGUN, "Header: has the writer not begun?", "bytes written"),
     (51, NOT_BEGUN, "Packet and trailer: has the writer begun?", "bytes written"),
@@ -88,6 +87,4 @@ refusals! {
     // The register block
     (74, WRONG_REGISTER_BLOCK, "Has the register block 16 bytes?", "0"),
     (75, UNKNOWN_COMMAND, "Is the command 0, 1, 2 or 3?", "0"),
-    // The page again
-    (76, OFFSET_TOO_WIDE, "Is the record's offset at most 9,999,999,999, so that it has at most 10 digits?", "the record's start in the table"),
 }

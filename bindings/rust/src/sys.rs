@@ -42,15 +42,7 @@ unsafe extern "C" {
         block_len: usize,
         out: *mut [u64; 7],
     ) -> u32;
-    /// An old table, of 24-byte records, to one of now, of 28-byte records, and their number. Refuses with 41 and 40.
-    pub fn amv_widen_index(
-        old: *const u8,
-        old_len: usize,
-        table: *mut u8,
-        table_len: usize,
-        out: *mut [u64; 2],
-    ) -> u32;
-    /// The page of an index: a line of 40 columns for each record, and their number. Refuses with 41, 43, 70, 76 and 40.
+    /// The page of an index: a line of 40 columns for each record, and their number. Refuses with 41, 43, 70 and 40.
     pub fn amv_print_index(
         table: *const u8,
         table_len: usize,

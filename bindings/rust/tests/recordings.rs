@@ -1,7 +1,6 @@
 //! Recordings that this wrapper writes, cuts and damages, and what it reads from them.
 
 use amv::*;
-use std::alloc::{alloc_zeroed, Layout};
 use std::collections::BTreeSet;
 
 const SETTINGS: Settings = Settings {
@@ -321,7 +320,7 @@ fn the_page_of_an_index_has_a_line_for_each_record() {
         assert_eq!(line.len(), Page::COLUMNS);
         let picture = entry.tag == VIDEO_CHUNK_TAG;
         assert_eq!(&line[..1], if picture { "V" } else { "A" });
-        assert_eq!(number(&line[1..11]), entry.file_offset);
+        assert_eq!(number(&line[1..11]), entry.file_offset.into());
         assert_eq!(number(&line[11..21]), entry.video_pts_before.into());
         assert_eq!(number(&line[21..]), entry.audio_pts_before);
     }
@@ -329,67 +328,32 @@ fn the_page_of_an_index_has_a_line_for_each_record() {
     assert_eq!((empty.text(), empty.lines().count()), ("", 0));
 }
 
-/// A picture's record with that offset and so many samples before it, and with the greatest count of frames.
-fn entry(file_offset: u64, audio_pts_before: u64) -> ChunkIndexEntry {
-    ChunkIndexEntry {
-        tag: VIDEO_CHUNK_TAG,
-        file_offset,
-        video_pts_before: u32::MAX,
-        audio_blocks_before: 0x8182_8384,
-        audio_pts_before,
-    }
-}
-
-/// The bytes of a record.
-fn record(entry: ChunkIndexEntry) -> Vec<u8> {
-    [
-        &entry.tag.to_le_bytes()[..],
-        &entry.file_offset.to_le_bytes(),
-        &entry.video_pts_before.to_le_bytes(),
-        &entry.audio_blocks_before.to_le_bytes(),
-        &entry.audio_pts_before.to_le_bytes(),
-    ]
-    .concat()
-}
-
-/// The bytes of a table.
-fn table(entries: impl IntoIterator<Item = ChunkIndexEntry>) -> Vec<u8> {
-    entries.into_iter().flat_map(record).collect()
-}
-
-/// The records of an index as they were stored before version 0.5: without the upper half of each offset.
-fn stored_before(records: &[u8]) -> Vec<u8> {
-    let old = records.chunks(ChunkIndexEntry::LEN);
-    old.flat_map(|r| [&r[..8], &r[12..]].concat()).collect()
+/// A record of a picture with the greatest offset and count of frames.
+fn record(audio_pts_before: u64) -> Vec<u8> {
+    let mut bytes = VIDEO_CHUNK_TAG.to_le_bytes().to_vec();
+    bytes.extend([0xFF; 12]);
+    bytes.extend(audio_pts_before.to_le_bytes());
+    bytes
 }
 
 #[test]
 fn a_page_is_printed_to_lent_bytes_or_left_as_it_was() {
     const MOST: u64 = 999_999_999_999_999_999;
-    const FAR: u64 = 9_999_999_999;
-    let widest = "V99999999994294967295 999999999999999999";
-    let good = table([entry(0, 0), entry(1, 0), entry(FAR, MOST)]);
-    // Each is refused by one question, and by those after it at an earlier record.
-    let far = table([entry(0, 0), entry(0, 0), entry(FAR + 1, MOST)]);
-    let limit = table([entry(FAR, 0), entry(FILE_LIMIT, 0), entry(FAR + 1, 0)]);
-    let wide = table([entry(FAR + 1, 0), entry(0, MOST + 1), entry(0, MOST + 1)]);
-    let bad = [&wide[..], &record(entry(0, 1 << 62))].concat();
-    let past = [&wide[..], &record(entry(FILE_LIMIT + 1, 0))].concat();
+    let widest = "V42949672954294967295 999999999999999999";
+    let good = [record(0), record(0), record(MOST)].concat();
+    let wide = [record(0), record(MOST + 1), record(MOST + 1)].concat();
+    let bad = [&wide[..], &record(1 << 62)].concat();
 
     let mut page = [b'#'; 121];
     assert_eq!(print_index(&good, &mut page), Ok(3));
     assert_eq!(&page[80..], format!("{widest}#").as_bytes());
-    assert_eq!(print_index(&good[56..], &mut page[..40]), Ok(1));
+    assert_eq!(print_index(&good[48..], &mut page[..40]), Ok(1));
     assert_eq!(&page[..40], widest.as_bytes());
 
     for (table, number, place) in [
-        (&past[..111], AmvError::TABLE_RAGGED, 0),
-        (&past[..72], AmvError::TABLE_RAGGED, 0),
-        (&bad[..], AmvError::BAD_RECORD, 84),
-        (&past[..], AmvError::BAD_RECORD, 84),
-        (&wide[..], AmvError::SAMPLES_TOO_WIDE, 28),
-        (&far[..], AmvError::OFFSET_TOO_WIDE, 56),
-        (&limit[..], AmvError::OFFSET_TOO_WIDE, 28),
+        (&good[..71], AmvError::TABLE_RAGGED, 0),
+        (&bad[..], AmvError::BAD_RECORD, 72),
+        (&wide[..], AmvError::SAMPLES_TOO_WIDE, 24),
         (&good[..], AmvError::TABLE_TOO_SHORT, 0),
     ] {
         // A byte too short for three lines, which is asked last.
@@ -401,341 +365,7 @@ fn a_page_is_printed_to_lent_bytes_or_left_as_it_was() {
         let printed = ChunkIndex::from_records(table.to_vec()).print();
         let left = (number != AmvError::TABLE_TOO_SHORT).then_some(refused);
         assert_eq!(printed.err(), left);
-        // The records before the first offset that is too wide have a page.
-        if number == AmvError::OFFSET_TOO_WIDE {
-            let before = ChunkIndex::from_records(table[..place as usize].to_vec());
-            let lines = before.print().unwrap().lines().count();
-            assert_eq!(lines, place as usize / ChunkIndexEntry::LEN);
-        }
     }
-}
-
-/// The index of the small file as it was stored before version 0.5, byte by byte.
-const SMALL_BEFORE: [u8; 48] = [
-    b'0', b'0', b'd', b'c', 0x3C, 1, 0, 0, 0, 0, 0, 0, 0, 0, 0, 0, 0, 0, 0, 0, 0, 0, 0, 0, //
-    b'0', b'1', b'w', b'b', 0x47, 1, 0, 0, 1, 0, 0, 0, 0, 0, 0, 0, 0, 0, 0, 0, 0, 0, 0, 0,
-];
-
-#[test]
-fn an_index_of_before_is_widened_to_the_one_that_is_built() {
-    let built = ChunkIndex::build(&small()).unwrap();
-    assert_eq!(stored_before(built.records()), SMALL_BEFORE);
-    assert_eq!(ChunkIndex::widen(&SMALL_BEFORE), Ok(built));
-    // So it is of every cut of a longer file, and jumps by the two do the same.
-    let file = write(&packets());
-    for len in 0..=file.len() {
-        let built = ChunkIndex::build(&file[..len]).unwrap();
-        let widened = ChunkIndex::widen(&stored_before(built.records())).unwrap();
-        assert_eq!(widened, built);
-        let Ok(mut by_built) = AmvDemuxer::open(&file[..len]) else {
-            continue;
-        };
-        let mut by_widened = by_built.clone();
-        for (stream, request) in [(0, 5), (1, 33), (0, 0), (1, 99), (0, 3)] {
-            let stamp = by_built.seek_to_via_index(&built, stream, request);
-            let same = by_widened.seek_to_via_index(&widened, stream, request);
-            assert_eq!((same, stand(&by_widened)), (stamp, stand(&by_built)));
-            assert_eq!(drain(&mut by_widened), drain(&mut by_built));
-        }
-    }
-}
-
-#[test]
-fn widening_keeps_every_field_and_asks_about_none() {
-    // Each byte of two records is another one, and no tag is known; a third has the greatest numbers.
-    let old: Vec<u8> = (1..=48).chain([0xFF; 24]).collect();
-    let expected = [
-        ChunkIndexEntry {
-            tag: 0x0403_0201,
-            file_offset: 0x0807_0605,
-            video_pts_before: 0x0C0B_0A09,
-            audio_blocks_before: 0x100F_0E0D,
-            audio_pts_before: 0x1817_1615_1413_1211,
-        },
-        ChunkIndexEntry {
-            tag: 0x1C1B_1A19,
-            file_offset: 0x201F_1E1D,
-            video_pts_before: 0x2423_2221,
-            audio_blocks_before: 0x2827_2625,
-            audio_pts_before: 0x302F_2E2D_2C2B_2A29,
-        },
-        ChunkIndexEntry {
-            tag: u32::MAX,
-            file_offset: u32::MAX.into(),
-            video_pts_before: u32::MAX,
-            audio_blocks_before: u32::MAX,
-            audio_pts_before: u64::MAX,
-        },
-    ];
-    let widened = ChunkIndex::widen(&old).unwrap();
-    assert_eq!(widened.entries().collect::<Vec<_>>(), expected);
-    assert_eq!(widened.records(), table(expected));
-    assert_eq!(ChunkIndex::widen(&[]).unwrap().records(), []);
-}
-
-#[test]
-fn a_table_is_widened_to_lent_bytes_or_left_as_it_was() {
-    let old: Vec<u8> = (0..=255).cycle().take(200).collect();
-    for old_len in 0..=old.len() {
-        let old = &old[..old_len];
-        let (count, rest) = (old_len / 24, old_len % 24);
-        let records = ChunkIndex::widen(&old[..old_len - rest]).unwrap();
-        for table_len in 0..=250 {
-            let mut table = [0xA5; 251];
-            let number = match (rest, table_len < 28 * count) {
-                (0, false) => 0,
-                (0, true) => AmvError::TABLE_TOO_SHORT,
-                _ => AmvError::TABLE_RAGGED,
-            };
-            let result = widen_index(old, &mut table[..table_len]);
-            if number != 0 {
-                assert_eq!(result, Err(AmvError { number, place: 0 }));
-                assert_eq!(table, [0xA5; 251]);
-                continue;
-            }
-            assert_eq!(result, Ok(count));
-            assert_eq!(&table[..28 * count], records.records());
-            assert_eq!(table[28 * count..], [0xA5; 251][28 * count..]);
-        }
-        let ragged = AmvError {
-            number: AmvError::TABLE_RAGGED,
-            place: 0,
-        };
-        assert_eq!(ChunkIndex::widen(old).err(), (rest != 0).then_some(ragged));
-    }
-}
-
-/// A recording of so many chunks, for the number of its records.
-fn recording_of(chunks: usize) -> Vec<u8> {
-    let packets: Vec<_> = packets().into_iter().cycle().take(chunks).collect();
-    write(&packets)
-}
-
-#[test]
-fn an_index_of_the_other_width_is_refused() {
-    for chunks in 1..=42 {
-        let file = recording_of(chunks);
-        let index = ChunkIndex::build(&file).unwrap();
-        let refused = |number, place| Err(AmvError { number, place });
-        let mut demuxer = AmvDemuxer::open(&file).unwrap();
-        let before = stand(&demuxer);
-        let mut seek = |records: &[u8]| {
-            let index = ChunkIndex::from_records(records.to_vec());
-            let sought = demuxer.seek_to_via_index(&index, 0, 0);
-            assert_eq!(stand(&demuxer), before);
-            assert_eq!(index.print().err(), sought.err());
-            sought
-        };
-        // An old one as it is: where it is as long as records of 28 bytes, a tag stands in the samples of the first.
-        let number = match chunks % 7 {
-            0 => AmvError::BAD_RECORD,
-            _ => AmvError::TABLE_RAGGED,
-        };
-        assert_eq!(seek(&stored_before(index.records())), refused(number, 0));
-        // One that is widened a second time: where it is as long as records of 24 bytes, samples stand in the tag of the second.
-        let (number, place) = match chunks % 6 {
-            0 => (AmvError::BAD_RECORD, 28),
-            _ => (AmvError::TABLE_RAGGED, 0),
-        };
-        let twice = ChunkIndex::widen(index.records());
-        let sought = twice.and_then(|twice| seek(twice.records()));
-        assert_eq!(sought, refused(number, place));
-    }
-}
-
-/// A seek of stream 0 to the request, by a call and by a controller's step, which are told the same and leave a reader at the same place.
-fn seek_both_ways<'a>(
-    demuxer: &AmvDemuxer<'a>,
-    records: &[u8],
-    requested: i64,
-) -> (Result<u64>, AmvDemuxer<'a>) {
-    let index = ChunkIndex::from_records(records.to_vec());
-    let mut sought = demuxer.clone();
-    let stamp = sought.seek_to_via_index(&index, 0, requested);
-    let mut stepped = demuxer.clone();
-    let mut block = registers(command::SEEK_PICTURE, requested);
-    assert_eq!(stepped.register_step(&index, &mut block), Ok(None));
-    let number = stamp.map_or_else(|refused| refused.number, |_| 0);
-    assert_eq!(u32::from(block[register::REFUSAL]), number);
-    let left = stamp.map_or(requested, |stamp| stamp as i64);
-    assert_eq!(request(&block), left);
-    assert_eq!(stand(&stepped), stand(&sought));
-    (stamp, sought)
-}
-
-#[test]
-fn a_jump_goes_to_offsets_up_to_the_limit() {
-    let file = small();
-    let demuxer = AmvDemuxer::open(&file).unwrap();
-    let powers = (0..=34).map(|bit| 1 << bit);
-    for offset in powers.chain([0x03_0405_0607, FILE_LIMIT - 1, FILE_LIMIT]) {
-        let records = table([entry(5, 6), entry(offset, 7)]);
-        let last = &records[ChunkIndexEntry::LEN..];
-        let frames = u64::from(u32::MAX);
-        let (stamp, sought) = seek_both_ways(&demuxer, last, 0);
-        assert_eq!(stamp, Ok(frames));
-        assert_eq!(stand(&sought).0, [offset, frames, 7, 0x8182_8384]);
-        assert!(!sought.is_at_end());
-        // The file has nothing there.
-        if offset > file.len() as u64 {
-            let mut read = sought.clone();
-            assert_eq!(read.next_packet(), Ok(None));
-            assert!(read.is_truncated());
-        }
-        // Past the last record the reader stands as if its header had just been read.
-        let (stamp, sought) = seek_both_ways(&sought, &records, i64::MAX);
-        assert_eq!(stamp, Ok(frames + 1));
-        let counts = [offset + 8, frames + 1, 7, 0x8182_8384];
-        assert_eq!((stand(&sought).0, sought.is_at_end()), (counts, true));
-    }
-}
-
-#[test]
-fn an_offset_above_the_limit_is_refused() {
-    let file = small();
-    let mut demuxer = AmvDemuxer::open(&file).unwrap();
-    demuxer.next_packet().unwrap();
-    let powers = (35..64).map(|bit| 1 << bit);
-    let others = [FILE_LIMIT + 1, 0x0102_0304_0506_0708, 1 << 62, u64::MAX];
-    for offset in powers.chain(others) {
-        for (place, records) in [
-            (0, table([entry(offset, 7), entry(5, 7)])),
-            (28, table([entry(FILE_LIMIT, 7), entry(offset, 7)])),
-        ] {
-            let number = AmvError::BAD_RECORD;
-            let refused = Err(AmvError { number, place });
-            let (stamp, sought) = seek_both_ways(&demuxer, &records, 0);
-            assert_eq!((stamp, stand(&sought)), (refused, stand(&demuxer)));
-            let printed = ChunkIndex::from_records(records).print();
-            assert_eq!(printed.err(), refused.err());
-        }
-    }
-}
-
-/// Zeros that take memory only where they are written to; none where the system does not give so many.
-fn zeros(len: u64) -> Option<Vec<u8>> {
-    let len = usize::try_from(len).ok()?;
-    let layout = Layout::array::<u8>(len).ok()?;
-    let start = unsafe { alloc_zeroed(layout) };
-    (!start.is_null()).then(|| unsafe { Vec::from_raw_parts(start, len, len) })
-}
-
-/// Puts a chunk at an offset: its header, and the first bytes of a payload of that length. Gives the offset after it.
-fn put_chunk(file: &mut [u8], at: u64, tag: u32, len: u32, payload: &[u8]) -> u64 {
-    let header = [tag.to_le_bytes(), len.to_le_bytes()].concat();
-    file[at as usize..][..8].copy_from_slice(&header);
-    file[at as usize + 8..][..payload.len()].copy_from_slice(payload);
-    at + 8 + u64::from(len)
-}
-
-#[test]
-fn a_recording_past_4_gib_is_indexed_jumped_to_and_played() {
-    let Some(mut file) = zeros((1 << 32) + 1024) else {
-        return eprintln!("not tried: a file of 4 GiB");
-    };
-    AmvMuxer::new(SETTINGS, &mut file).write_header().unwrap();
-    let sound = block(5, 9);
-    let second = put_chunk(&mut file, 316, VIDEO_CHUNK_TAG, u32::MAX, &[]);
-    let third = put_chunk(&mut file, second, AUDIO_CHUNK_TAG, 10, &sound);
-    let trailer = put_chunk(&mut file, third, VIDEO_CHUNK_TAG, 3, &[1, 2, 3]);
-    file.truncate(trailer as usize + 8);
-    file[trailer as usize..].copy_from_slice(b"AMV_END_");
-    assert!(second > u32::MAX.into());
-
-    let totals = check(&file).unwrap();
-    assert_eq!((totals.frames, totals.blocks), (2, 1));
-    assert_eq!((totals.samples, totals.trailer), (5, trailer));
-    let index = ChunkIndex::build(&file).unwrap();
-    let offsets: Vec<_> = index.entries().map(|entry| entry.file_offset).collect();
-    assert_eq!(offsets, [316, second, third]);
-    let page = index.print().unwrap();
-    let lines = [
-        "V       316         0                  0",
-        "A4294967619         1                  0",
-        "V4294967637         1                  5",
-    ];
-    assert_eq!(page.lines().collect::<Vec<_>>(), lines);
-
-    let mut demuxer = AmvDemuxer::open_strict(&file).unwrap();
-    for (stream, request, at, data) in [
-        (0, 1, third, &[1, 2, 3][..]),
-        (1, -1, second, &sound),
-        (0, 1, third, &[1, 2, 3]),
-    ] {
-        demuxer.seek_to(stream, request).unwrap();
-        assert_eq!(demuxer.cursor(), at);
-        let packet = demuxer.next_packet().unwrap().unwrap();
-        assert_eq!((packet.stream_index, packet.data), (stream, data));
-    }
-    assert_eq!(demuxer.next_packet(), Ok(None));
-    assert_eq!(demuxer.trailer_offset(), Some(trailer));
-    // Cut after 4 GiB, in the sound.
-    let cut = &file[..third as usize - 1];
-    let (number, place) = (AmvError::CHUNK_CUT, second);
-    assert_eq!(check(cut), Err(AmvError { number, place }));
-    let counts = ChunkCounts {
-        frames: 1,
-        blocks: 0,
-    };
-    assert_eq!(summary(cut), Ok(counts));
-}
-
-#[test]
-fn a_recording_of_the_limit_is_finished_and_a_byte_more_is_refused() {
-    let Some(mut longer) = zeros(FILE_LIMIT + 1) else {
-        return eprintln!("not tried: a file of 16 GiB");
-    };
-    AmvMuxer::new(SETTINGS, &mut longer).write_header().unwrap();
-    // Five pictures of equal length.
-    let trailer = FILE_LIMIT - 8;
-    let len = (trailer - 316) / 5 - 8;
-    let mut at = 316;
-    for _ in 0..5 {
-        at = put_chunk(&mut longer, at, VIDEO_CHUNK_TAG, len as u32, &[]);
-    }
-    assert_eq!(at, trailer);
-    // A writer that has written them writes the trailer; one that stands a byte further finds no room below the limit.
-    let mut writer = [64, 48, 12, 8000, 1, 1, 0, trailer + 1, 5];
-    let mut write = |writer: &mut [u64; 9]| {
-        let mut out = [7; 1];
-        let (start, len) = (longer.as_mut_ptr(), longer.len());
-        let number = unsafe { sys::amv_write_trailer(writer, start, len, &mut out) };
-        (number, out[0], writer[7])
-    };
-    let no_room = (AmvError::NO_ROOM, trailer + 1, trailer + 1);
-    assert_eq!(write(&mut writer), no_room);
-    writer[7] = trailer;
-    assert_eq!(write(&mut writer), (0, 0, FILE_LIMIT));
-
-    let file = &longer[..FILE_LIMIT as usize];
-    let totals = check(file).unwrap();
-    assert_eq!((totals.frames, totals.trailer), (5, trailer));
-    let mut demuxer = AmvDemuxer::open_strict(file).unwrap();
-    assert_eq!(demuxer.seek_to(0, 4), Ok(4));
-    assert_eq!(demuxer.cursor(), trailer - 8 - len);
-    let packet = demuxer.next_packet().unwrap().unwrap();
-    assert_eq!((packet.pts, packet.data.len() as u64), (4, len));
-    assert_eq!(demuxer.next_packet(), Ok(None));
-    assert_eq!(demuxer.trailer_offset(), Some(trailer));
-    // The first three pictures have a page.
-    let index = demuxer.chunk_index().unwrap();
-    let (number, place) = (AmvError::OFFSET_TOO_WIDE, 84);
-    assert_eq!(index.print(), Err(AmvError { number, place }));
-    let before = index.records()[..84].to_vec();
-    let page = ChunkIndex::from_records(before).print().unwrap();
-    assert_eq!(
-        page.lines().last(),
-        Some("V6871947860         2                  0")
-    );
-
-    let refused = Some(AmvError {
-        number: AmvError::FILE_TOO_LONG,
-        place: 0,
-    });
-    assert_eq!(AmvDemuxer::open(&longer).err(), refused);
-    assert_eq!(check(&longer).err(), refused);
-    assert_eq!(summary(&longer).err(), refused);
-    assert_eq!(ChunkIndex::build(&longer).err(), refused);
 }
 
 /// A sound block from its fields; the byte that is ignored is not 0.
@@ -909,7 +539,7 @@ fn a_refused_read_or_seek_shows_in_the_block_alone() {
     let at = ends(&packets)[2];
     let index = ChunkIndex::build(&damaged).unwrap();
     damaged[at] = b'X';
-    let bad = [index.records(), &[0; ChunkIndexEntry::LEN]].concat();
+    let bad = [index.records(), &[0; 24]].concat();
     let ragged = ChunkIndex::from_records(bad[1..].to_vec());
     let bad = ChunkIndex::from_records(bad);
     let mut demuxer = AmvDemuxer::open(&damaged).unwrap();
@@ -1072,7 +702,7 @@ fn steps_do_what_reads_and_seeks_do() {
     }
     let mut damaged = file.clone();
     damaged[ends(&packets)[5]] = b'X';
-    let bad = [whole.records(), &[0; ChunkIndexEntry::LEN]].concat();
+    let bad = [whole.records(), &[0; 24]].concat();
     for (records, seed) in [(whole.records(), 1), (&bad, 2), (&bad[1..], 3), (&[], 4)] {
         let index = ChunkIndex::from_records(records.to_vec());
         came_to.extend(compare_steps(&damaged, &index, left_blocks(seed, 200)));
@@ -1227,12 +857,12 @@ fn the_other_calls() {
     );
     let mut demuxer = AmvDemuxer::open(&file).unwrap();
     // A ragged table, and one with a record of no kind: a stream that does not exist is told before either.
-    let bad = [index.records(), &[0; ChunkIndexEntry::LEN]].concat();
+    let bad = [index.records(), &[0; 24]].concat();
     let ragged = [&bad[..], &[0]].concat();
     for (records, stream, number, place) in [
         (&ragged, 0, AmvError::TABLE_RAGGED, 0),
         (&ragged, 2, AmvError::NO_SUCH_STREAM, 0),
-        (&bad, 1, AmvError::BAD_RECORD, 56),
+        (&bad, 1, AmvError::BAD_RECORD, 48),
         (&bad, u32::MAX, AmvError::NO_SUCH_STREAM, 0),
     ] {
         let refused = AmvError { number, place };

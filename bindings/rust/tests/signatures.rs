@@ -174,7 +174,7 @@ fn of_source() -> Functions {
 #[test]
 fn header_binding_and_source_agree() {
     let source = of_source();
-    assert_eq!(source.len(), 15, "the functions of the interface");
+    assert_eq!(source.len(), 14, "the functions of the interface");
     assert_eq!(
         of_header(),
         source,
@@ -282,7 +282,7 @@ fn refusals_of_source() -> Vec<(u32, String, Option<String>)> {
 #[test]
 fn refusals_agree() {
     let header = refusals_of_header();
-    assert_eq!(header.len(), 47, "the refusals");
+    assert_eq!(header.len(), 46, "the refusals");
     assert_eq!(refusals_of_binding(), header, "refusals.rs and amv.h");
     assert_eq!(refusals_of_format(), header, "docs/FORMAT.md and amv.h");
     let by_source: Vec<_> = header
@@ -424,11 +424,6 @@ fn version_and_limits_agree() {
             "const LEN: usize =",
         ),
         (
-            "AMV_OLD_ENTRY_LEN",
-            "crates/widen/src/lib.rt",
-            "const OLD_LEN: usize =",
-        ),
-        (
             "AMV_PAGE_COLUMNS",
             "crates/page/src/lib.rt",
             "const COLUMNS: usize =",
@@ -450,17 +445,5 @@ fn version_and_limits_agree() {
         ),
     ] {
         assert_eq!(numbers[name], source_number(path, constant), "{name}");
-    }
-    for (name, number) in [
-        ("AMV_FILE_LIMIT", amv::FILE_LIMIT),
-        ("AMV_DURATION_MAX_SECONDS", amv::AmvDuration::MAX_SECONDS),
-        ("AMV_ENTRY_LEN", amv::ChunkIndexEntry::LEN as u64),
-        ("AMV_OLD_ENTRY_LEN", amv::ChunkIndexEntry::OLD_LEN as u64),
-        ("AMV_PAGE_COLUMNS", amv::Page::COLUMNS as u64),
-        ("AMV_BLOCK_NIBBLES", amv::AMV_AUDIO_PREAMBLE_LEN as u64),
-        ("AMV_VIDEO_CHUNK_TAG", amv::VIDEO_CHUNK_TAG.into()),
-        ("AMV_AUDIO_CHUNK_TAG", amv::AUDIO_CHUNK_TAG.into()),
-    ] {
-        assert_eq!(numbers[name], number, "{name} in the binding");
     }
 }

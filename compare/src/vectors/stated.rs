@@ -1,14 +1,13 @@
 //! Answers that the original does not have. Each is written out here from 01's text, those with number 1 from the
-//! header of the C interface, those of a page, of a sound block, of an old table, of an offset past 32 bits and of a run length above the cap
-//! from 02's text; the plain implementation must answer the same before a case is stored, so that two readings of each text meet.
+//! header of the C interface, those of a page, of a sound block and of a run length above the cap from 02's text; the plain implementation
+//! must answer the same before a case is stored, so that two readings of each text meet.
 
 use plain::words::{WalkerWords, WriterWords};
 use plain::{AUDIO, VIDEO};
 
 use super::{
     BUILD_CHUNK_INDEX, CHECK, Call, Cases, DECODE_BLOCK, LISTING, NEXT_PACKET, PARSE, PRINT_INDEX,
-    SEEK_TO_VIA_INDEX, SUMMARY, WIDEN_INDEX, WRITE_TRAILER, add_run_length, request_words,
-    written_parts,
+    SEEK_TO_VIA_INDEX, SUMMARY, WRITE_TRAILER, add_run_length, request_words, written_parts,
 };
 use crate::interface::PLAIN;
 use crate::said::{Said, Write, accepted, refused};
@@ -21,10 +20,6 @@ pub const OVER: u64 = 4_611_686_018_427_387_905;
 /// 10^18, and 2^64 - 1.
 const MANY: u64 = 1_000_000_000_000_000_000;
 pub const LAST: u64 = 18_446_744_073_709_551_615;
-
-/// The file limit, and the last offset that a page has columns for.
-pub const LIMIT: u64 = 17_179_869_184;
-const PRINTED: u64 = 9_999_999_999;
 
 /// A walker's word where no trailer was met.
 pub const NOT_MET: u64 = LAST;
@@ -120,21 +115,6 @@ fn refused_index(cases: &mut Cases, file: &[u8], room: usize, number: u32, place
         ..call_of(BUILD_CHUNK_INDEX, file)
     };
     cases.add(call, number.into(), &[place, 0], &lent);
-}
-
-/// An old table widened into so many bytes, and the records that these begin with after the call; every other byte stays.
-fn widen_index(cases: &mut Cases, old: &[u8], room: usize, stated: Said<2>, records: &[&[u8]]) {
-    let lent = vec![0xc3; room];
-    let records = records.concat();
-    let after = [&records, &lent[records.len()..]].concat();
-    let mut table = lent.clone();
-    let said = PLAIN.widen_index(old, &mut table);
-    assert_eq!((said, &table), (stated, &after));
-    let call = Call {
-        lent: &lent,
-        ..call_of(WIDEN_INDEX, old)
-    };
-    cases.add(call, stated.number.into(), &stated.out, &after);
 }
 
 /// A page of so many bytes, and the lines that it begins with after the call; every other byte stays.
@@ -471,15 +451,7 @@ fn reads(cases: &mut Cases) {
 
 /// E's index with these tags and samples before.
 pub fn index_of(first: (&[u8; 4], u64), second: (&[u8; 4], u64)) -> Vec<u8> {
-    index_at((first.0, 316, first.1), (second.0, 327, second.1))
-}
-
-/// A tag, an offset, and samples before.
-type Telling<'a> = (&'a [u8; 4], u64, u64);
-
-/// E's index with these tags, offsets and samples before.
-pub fn index_at(first: Telling, second: Telling) -> Vec<u8> {
-    let record = |(tag, offset, samples): Telling, frames| {
+    let record = |(tag, samples): (&[u8; 4], u64), offset, frames| {
         plain::Record {
             tag: u32::from_le_bytes(*tag),
             offset,
@@ -489,26 +461,23 @@ pub fn index_at(first: Telling, second: Telling) -> Vec<u8> {
         }
         .bytes()
     };
-    [record(first, 0), record(second, 1)].concat()
+    [record(first, 316, 0), record(second, 327, 1)].concat()
 }
 
 fn indexes_and_jumps(cases: &mut Cases) {
     let example = files::example();
-    for room in [0, 27, 28, 48, 55] {
+    for room in [0, 23, 24, 47] {
         refused_index(cases, &example, room, 40, 0);
         refused_index(cases, &example_with(330, b'c'), room, 31, 327);
     }
     // A frame is recorded though its body is cut.
-    for room in [24, 27] {
-        refused_index(cases, &example[..324], room, 40, 0);
-    }
+    refused_index(cases, &example[..324], 23, 40, 0);
 
     let index = index_of((b"00dc", 0), (b"01wb", 0));
     for (walker, number) in bad_walkers() {
         seek_to_via_index(cases, &index, walker, (0, 0), refused(number, 0), walker);
     }
-    // 24 and 48 are what they had as records of 24 bytes.
-    for length in [1, 24, 27, 29, 48, 55] {
+    for length in [1, 23, 25, 47] {
         seek_to_via_index(
             cases,
             &index[..length],
@@ -520,7 +489,7 @@ fn indexes_and_jumps(cases: &mut Cases) {
     }
     // 02: the stream is asked about first, so the table may be whatever it is.
     for stream in [2, 4_294_967_295] {
-        for length in [0, 1, 24, 27, 29, 48, 55, 56] {
+        for length in [0, 1, 23, 25, 47, 48] {
             let table = &index[..length];
             seek_to_via_index(cases, table, FRESH, (stream, 0), refused(42, 0), FRESH);
         }
@@ -528,8 +497,8 @@ fn indexes_and_jumps(cases: &mut Cases) {
     for (first, second, place) in [
         ((b"00db", 0), (b"01wb", 0), 0),
         ((b"00dc", MOST), (b"01wb", 0), 0),
-        ((b"00dc", 0), (b"01wc", 0), 28),
-        ((b"00dc", 0), (b"01wb", MOST), 28),
+        ((b"00dc", 0), (b"01wc", 0), 24),
+        ((b"00dc", 0), (b"01wb", MOST), 24),
         ((b"00dc", MOST), (b"01wc", 0), 0),
         ((b"AMV_", 0), (b"01wb", 18_446_744_073_709_551_615), 0),
     ] {
@@ -538,14 +507,14 @@ fn indexes_and_jumps(cases: &mut Cases) {
     }
     // The order 1, 42, 41, 43, 32: what is asked later has the answer no as well.
     let bad = index_of((b"00dc", 0), (b"01wc", 0));
-    let ragged = &index_of((b"01wc", 0), (b"01wc", 0))[..55];
+    let ragged = &index_of((b"01wc", 0), (b"01wc", 0))[..47];
     let over = [316, OVER, 0, 0, 0, 0, NOT_MET];
     for (table, walker, stream, number, place) in [
         (ragged, [316, OVER, 0, 0, 2, 0, NOT_MET], 2, 1, 0),
         (ragged, over, 2, 42, 0),
         (&bad, over, 2, 42, 0),
         (ragged, over, 1, 41, 0),
-        (&bad, over, 1, 43, 28),
+        (&bad, over, 1, 43, 24),
         (&index, over, 1, 32, 0),
     ] {
         let stated = refused(number, place);
@@ -565,127 +534,6 @@ fn indexes_and_jumps(cases: &mut Cases) {
     }
 }
 
-/// Jumps by records whose offset needs more than 32 bits, up to the file limit and past it.
-fn far_jumps(cases: &mut Cases) {
-    for (first, second) in [
-        (4_294_967_295, 4_294_967_306),
-        (316, 4_294_967_296),
-        (4_294_967_612, PRINTED + 1),
-        (LIMIT - 1, LIMIT),
-        (LIMIT, 316),
-    ] {
-        let index = index_at((b"00dc", first, 0), (b"01wb", second, 7));
-        for (asked, stamp, after) in [
-            ((0, 0), 0, [first, 0, 0, 0, 0, 0, NOT_MET]),
-            ((1, 7), 7, [second, 1, 7, 0, 0, 0, NOT_MET]),
-            ((0, 1), 1, [second + 8, 1, 7, 1, 1, 0, NOT_MET]),
-            ((1, 8), 7, [second + 8, 1, 7, 1, 1, 0, NOT_MET]),
-        ] {
-            seek_to_via_index(cases, &index, FRESH, asked, accepted(&[stamp]), after);
-        }
-    }
-    for (first, second, place) in [
-        ((b"00dc", LIMIT + 1, 0), (b"01wb", 327, 0), 0),
-        ((b"00dc", 316, 0), (b"01wb", LIMIT + 1, 0), 28),
-        ((b"00dc", LAST, 0), (b"01wb", 327, 0), 0),
-        ((b"00dc", LIMIT, 0), (b"01wb", LAST - 7, 0), 28),
-        ((b"00dc", 316 + (1 << 63), 0), (b"01wb", LIMIT + 1, 0), 0),
-        ((b"00dc", 2 * LIMIT, 0), (b"01wc", 327, 0), 0),
-        ((b"00db", 316, 0), (b"01wb", LIMIT + 1, 0), 0),
-        ((b"00dc", LIMIT + 316, 0), (b"01wb", 327, MOST), 0),
-        ((b"00dc", 316, MOST), (b"01wb", LIMIT + 1, 0), 0),
-        ((b"00dc", LIMIT, 0), (b"01wc", LIMIT + 1, MOST), 28),
-    ] {
-        let index = index_at(first, second);
-        for asked in [(0, 0), (1, 9)] {
-            seek_to_via_index(cases, &index, FRESH, asked, refused(43, place), FRESH);
-        }
-    }
-    // The order 42, 41, 43, 32: what is asked later has the answer no as well.
-    let far = index_at((b"00dc", 316, 0), (b"01wb", LIMIT + 1, 0));
-    let over = [OVER, 0, 0, 0, 0, 0, NOT_MET];
-    for (table, stream, number, place) in [
-        (&far[..55], 2, 42, 0),
-        (&far[..55], 0, 41, 0),
-        (&far, 0, 43, 28),
-        (&far[..28], 0, 32, 0),
-    ] {
-        let stated = refused(number, place);
-        seek_to_via_index(cases, table, over, (stream, 0), stated, over);
-    }
-}
-
-/// The old index of E, and what it is widened to.
-const OLD_FRAME: [u8; 24] = *b"00dc\x3c\x01\0\0\0\0\0\0\0\0\0\0\0\0\0\0\0\0\0\0";
-const OLD_BLOCK: [u8; 24] = *b"01wb\x47\x01\0\0\x01\0\0\0\0\0\0\0\0\0\0\0\0\0\0\0";
-const FRAME: [u8; 28] = *b"00dc\x3c\x01\0\0\0\0\0\0\0\0\0\0\0\0\0\0\0\0\0\0\0\0\0\0";
-const BLOCK: [u8; 28] = *b"01wb\x47\x01\0\0\0\0\0\0\x01\0\0\0\0\0\0\0\0\0\0\0\0\0\0\0";
-
-fn old_tables(cases: &mut Cases) {
-    let old = [OLD_FRAME, OLD_BLOCK].concat();
-    for room in [56, 57, 84] {
-        widen_index(cases, &old, room, accepted(&[2]), &[&FRAME, &BLOCK]);
-    }
-    for room in [28, 56] {
-        widen_index(cases, &old[24..], room, accepted(&[1]), &[&BLOCK]);
-    }
-    for room in [0, 1, 28] {
-        widen_index(cases, &[], room, accepted(&[0]), &[]);
-    }
-    // No two bytes are equal; the greatest of every field; nothing is asked of tag, samples or offset.
-    let telling: [([u8; 24], [u8; 28]); 4] = [
-        (
-            *b"tag.OFFSframblksSAMPLES!",
-            *b"tag.OFFS\0\0\0\0framblksSAMPLES!",
-        ),
-        (
-            [0xff; 24],
-            *b"\xff\xff\xff\xff\xff\xff\xff\xff\0\0\0\0\xff\xff\xff\xff\xff\xff\xff\xff\xff\xff\xff\xff\xff\xff\xff\xff",
-        ),
-        (
-            *b"00dc\xff\xff\xff\xff\xfe\xff\xff\xff\xfd\xff\xff\xff\xfc\xff\xff\xff\xff\xff\xff\x3f",
-            *b"00dc\xff\xff\xff\xff\0\0\0\0\xfe\xff\xff\xff\xfd\xff\xff\xff\xfc\xff\xff\xff\xff\xff\xff\x3f",
-        ),
-        (
-            *b"01wc\0\0\0\x80\x01\x02\x03\x04\x05\x06\x07\x08\0\0\0\0\0\0\0\x40",
-            *b"01wc\0\0\0\x80\0\0\0\0\x01\x02\x03\x04\x05\x06\x07\x08\0\0\0\0\0\0\0\x40",
-        ),
-    ];
-    for (old, wide) in &telling {
-        widen_index(cases, old, 29, accepted(&[1]), &[wide]);
-    }
-    let four = telling.map(|(old, _)| old).concat();
-    let wide = telling.map(|(_, wide)| wide).concat();
-    widen_index(cases, &four, 113, accepted(&[4]), &[&wide]);
-    // Seven old records are as long as six.
-    let seven = [&four[..], &old, &OLD_FRAME].concat();
-    let wide = [&wide[..], &FRAME, &BLOCK, &FRAME].concat();
-    widen_index(cases, &seven, 200, accepted(&[7]), &[&wide]);
-}
-
-fn refused_old_tables(cases: &mut Cases) {
-    let old = [OLD_FRAME, OLD_BLOCK, OLD_FRAME].concat();
-    let mut refuse = |old: &[u8], room, number| {
-        widen_index(cases, old, room, refused(number, 0), &[]);
-    };
-    // Room for one record less, for as many old ones, and less by a byte.
-    for room in [0, 1, 27, 28, 48, 55] {
-        refuse(&old[..48], room, 40);
-    }
-    for room in [0, 4, 24, 27] {
-        refuse(&old[..24], room, 40);
-    }
-    // 28 and 56 bytes are whole records of today. 41 comes before 40.
-    for length in [1, 23, 25, 28, 47, 49, 56] {
-        refuse(&old[..length], 84, 41);
-        refuse(&old[..length], 0, 41);
-    }
-    // Seven old records taken for six of today.
-    let table = &OLD_FRAME.repeat(7);
-    seek_to_via_index(cases, table, FRESH, (0, 0), refused(43, 0), FRESH);
-    print_index(cases, table, 240, refused(43, 0), &[]);
-}
-
 /// Pages of E's index, with room to spare and without, and of other counts.
 fn pages(cases: &mut Cases) {
     let index = index_of((b"00dc", 0), (b"01wb", 0));
@@ -696,7 +544,7 @@ fn pages(cases: &mut Cases) {
     for room in [80, 81, 160] {
         print_index(cases, &index, room, accepted(&[2]), &lines);
     }
-    print_index(cases, &index[..28], 40, accepted(&[1]), &lines[..1]);
+    print_index(cases, &index[..24], 40, accepted(&[1]), &lines[..1]);
     for room in [0, 1, 40] {
         print_index(cases, &[], room, accepted(&[0]), &[]);
     }
@@ -721,26 +569,15 @@ fn pages(cases: &mut Cases) {
         let lines = [lines[0], line];
         print_index(cases, &index, 81, accepted(&[2]), &lines);
     }
-    for (offset, line) in [
-        (4_294_967_295, "V42949672954294967295 999999999999999999"),
-        (4_294_967_296, "V42949672964294967295 999999999999999999"),
-        (PRINTED, "V99999999994294967295 999999999999999999"),
-    ] {
-        let largest = plain::Record {
-            tag: VIDEO,
-            offset,
-            frames: u32::MAX,
-            blocks: 5,
-            samples: MANY - 1,
-        };
-        print_index(cases, &largest.bytes(), 41, accepted(&[1]), &[line]);
-    }
-    let far = index_at((b"00dc", 4_294_967_296, 0), (b"01wb", PRINTED, 5));
-    let lines = [
-        "V4294967296         0                  0",
-        "A9999999999         1                  5",
-    ];
-    print_index(cases, &far, 81, accepted(&[2]), &lines);
+    let largest = plain::Record {
+        tag: VIDEO,
+        offset: u32::MAX,
+        frames: u32::MAX,
+        blocks: 5,
+        samples: MANY - 1,
+    };
+    let line = "V42949672954294967295 999999999999999999";
+    print_index(cases, &largest.bytes(), 41, accepted(&[1]), &[line]);
 }
 
 fn refused_pages(cases: &mut Cases) {
@@ -748,54 +585,30 @@ fn refused_pages(cases: &mut Cases) {
     let mut refuse = |table: &[u8], room, number, place| {
         print_index(cases, table, room, refused(number, place), &[]);
     };
-    for length in [1, 24, 27, 29, 48, 55] {
+    for length in [1, 23, 25, 47] {
         refuse(&index[..length], 80, 41, 0);
     }
     for room in [0, 1, 39, 40, 79] {
         refuse(&index, room, 40, 0);
     }
-    // The order 41, 43, 70, 76, 40, each of the whole table: what is asked later has the answer no as well.
+    // The order 41, 43, 70, 40, each of the whole table: what is asked later has the answer no as well.
     let bad = index_of((b"00dc", MANY), (b"01wc", 0));
-    refuse(&bad[..55], 0, 41, 0);
+    refuse(&bad[..47], 0, 41, 0);
     for (first, second, number, place) in [
         ((b"00db", 0), (b"01wb", 0), 43, 0),
-        ((b"00dc", 0), (b"01wc", 0), 43, 28),
+        ((b"00dc", 0), (b"01wc", 0), 43, 24),
         ((b"00dc", MOST), (b"01wb", 0), 43, 0),
-        ((b"00dc", 0), (b"01wb", LAST), 43, 28),
-        ((b"00dc", MANY), (b"01wc", 0), 43, 28),
-        ((b"00dc", MANY), (b"01wb", MOST), 43, 28),
+        ((b"00dc", 0), (b"01wb", LAST), 43, 24),
+        ((b"00dc", MANY), (b"01wc", 0), 43, 24),
+        ((b"00dc", MANY), (b"01wb", MOST), 43, 24),
         ((b"00dc", MANY), (b"01wb", 0), 70, 0),
-        ((b"00dc", 0), (b"01wb", MANY), 70, 28),
+        ((b"00dc", 0), (b"01wb", MANY), 70, 24),
         ((b"00dc", MANY), (b"01wb", MANY), 70, 0),
-        ((b"00dc", 0), (b"01wb", MOST - 1), 70, 28),
+        ((b"00dc", 0), (b"01wb", MOST - 1), 70, 24),
     ] {
         let index = index_of(first, second);
         refuse(&index, 80, number, place);
         refuse(&index, 79, number, place);
-    }
-    let wide = PRINTED + 1;
-    for (first, second, number, place) in [
-        ((b"00dc", wide, 0), (b"01wb", 327, 0), 76, 0),
-        ((b"00dc", 316, 0), (b"01wb", wide, 0), 76, 28),
-        ((b"00dc", wide, 0), (b"01wb", wide, 0), 76, 0),
-        ((b"00dc", PRINTED, 0), (b"01wb", LIMIT, 0), 76, 28),
-        ((b"00dc", LIMIT, MANY - 1), (b"01wb", 327, 0), 76, 0),
-        ((b"00dc", wide, 0), (b"01wb", 327, MANY), 70, 28),
-        ((b"00dc", 316, MANY), (b"01wb", wide, 0), 70, 0),
-        ((b"00dc", wide, MANY), (b"01wb", 327, 0), 70, 0),
-        ((b"00dc", wide, 0), (b"01wb", wide, MANY), 70, 28),
-        ((b"00dc", wide, 0), (b"01wc", 327, 0), 43, 28),
-        ((b"00db", wide, 0), (b"01wb", wide, MANY), 43, 0),
-        ((b"00dc", LIMIT, MANY), (b"01wb", 327, MOST), 43, 28),
-        ((b"00dc", LIMIT + 1, 0), (b"01wb", 327, 0), 43, 0),
-        ((b"00dc", 316, 0), (b"01wb", LIMIT + 1, 0), 43, 28),
-        ((b"00dc", wide, MANY), (b"01wb", LIMIT + 1, 0), 43, 28),
-        ((b"00dc", LAST, 0), (b"01wb", LAST, LAST), 43, 0),
-    ] {
-        let index = index_at(first, second);
-        refuse(&index, 80, number, place);
-        refuse(&index, 79, number, place);
-        refuse(&index[..55], 80, 41, 0);
     }
 }
 
@@ -1010,9 +823,6 @@ pub fn all(cases: &mut Cases) {
     tails(cases);
     reads(cases);
     indexes_and_jumps(cases);
-    far_jumps(cases);
-    old_tables(cases);
-    refused_old_tables(cases);
     pages(cases);
     refused_pages(cases);
     blocks(cases);

@@ -3,7 +3,7 @@
 
 use plain::words::WalkerWords;
 
-use super::stated::{FRESH, LAST, LIMIT, NOT_MET, OVER, call_of, example_with, index_at, index_of};
+use super::stated::{FRESH, LAST, NOT_MET, OVER, call_of, example_with, index_of};
 use super::{Call, Cases, REGISTER_STEP};
 use crate::files;
 use crate::interface::PLAIN;
@@ -220,8 +220,6 @@ fn refused_reads_and_seeks(cases: &mut Cases) {
     let unknown = example_with(316, b'1');
     let unknown = (&unknown[..], &index[..]);
     let bad = index_of((b"00dc", 0), (b"01wc", 0));
-    let beyond = index_at((b"00dc", 316, 0), (b"01wb", LIMIT + 1, 0));
-    let far_beyond = index_at((b"00dc", 316 + (1 << 40), 0), (b"01wb", 327, 0));
     let ended = [316, 0, OVER, 0, 1, 1, 5];
     let cut = [316, 0, 0, OVER, 0, 1, NOT_MET];
     let far = [LAST, 0, 0, 0, 0, 0, NOT_MET];
@@ -248,7 +246,7 @@ fn refused_reads_and_seeks(cases: &mut Cases) {
         ),
         (unknown, FRESH, [0, 8, 15, 8, 0, 31], [0, 0, 15, 8, 0, 0], 9),
         (
-            (&example, &index[..55]),
+            (&example, &index[..47]),
             FRESH,
             [2, 0, 8, 0, 0, 0],
             [0, 8, 8, 8, 0, 41],
@@ -260,36 +258,6 @@ fn refused_reads_and_seeks(cases: &mut Cases) {
             [3, 7, 9, 2, 0, 41],
             [0, 8, 9, 10, 0, 43],
             -1,
-        ),
-        // An offset past the file limit: of the record that is sought, of another, and by 2^40.
-        (
-            (&example, &beyond),
-            FRESH,
-            [3, 0, 15, 0, 0, 0],
-            [0, 8, 15, 8, 0, 43],
-            0,
-        ),
-        (
-            (&example, &beyond),
-            FRESH,
-            [2, 8, 15, 4, 0, 32],
-            [0, 8, 15, 4, 0, 43],
-            0,
-        ),
-        (
-            (&example, &far_beyond),
-            FRESH,
-            [3, 0, 15, 0, 0, 0],
-            [0, 8, 15, 8, 0, 43],
-            0,
-        ),
-        // Old records, which are no whole ones of today.
-        (
-            (&example, &index[..48]),
-            FRESH,
-            [2, 0, 8, 0, 0, 0],
-            [0, 8, 8, 8, 0, 41],
-            1,
         ),
     ] {
         let step = Step {
@@ -308,7 +276,7 @@ fn not_asked(cases: &mut Cases) {
         packet: [1, 0, 324, 3, 0, 1],
         left: ([327, 1, 0, 0, 0, 0, NOT_MET], [0, 1, 255, 1, 0, 0], 0),
     };
-    accept(cases, (&files::example(), &index()[..55]), &[read]);
+    accept(cases, (&files::example(), &index()[..47]), &[read]);
     let seek = Step {
         given: (FRESH, [3, 0, 1, 2, 0, 0], -1),
         packet: NONE,
@@ -322,7 +290,7 @@ fn not_asked(cases: &mut Cases) {
         left: (wrong, [0, 2, 15, 2, 0, 0], 7),
     };
     let table = index_of((b"00db", 0), (b"01wc", 0));
-    accept(cases, (&example_with(316, b'1'), &table[..55]), &[nothing]);
+    accept(cases, (&example_with(316, b'1'), &table[..47]), &[nothing]);
 }
 
 /// Requests and stamps of which no two bytes are equal.
@@ -354,19 +322,6 @@ fn wide(cases: &mut Cases) {
         seek(AFTER, [335, 1, COUNT, 1, 1, 0, NOT_MET], 2),
     ];
     let table = index_of((b"00dc", 0), (b"01wb", COUNT));
-    accept(cases, (&files::example(), &table), &steps);
-    // Records at 2^32 and at the file limit: to each, and to the end, 8 past the last.
-    let far = |command, request, left, status| Step {
-        given: (FRESH, [command, 0, 0, 0, 0, 0], request),
-        packet: NONE,
-        left: (left, [0, status, 0, 0, 0, 0], request),
-    };
-    let steps = [
-        far(2, 0, [1 << 32, 0, 0, 0, 0, 0, NOT_MET], 0),
-        far(3, 7, [LIMIT, 1, 7, 0, 0, 0, NOT_MET], 0),
-        far(2, 1, [LIMIT + 8, 1, 7, 1, 1, 0, NOT_MET], 2),
-    ];
-    let table = index_at((b"00dc", 1 << 32, 0), (b"01wb", LIMIT, 7));
     accept(cases, (&files::example(), &table), &steps);
     // No record: the stamp is the walker's count.
     let no_record = Step {

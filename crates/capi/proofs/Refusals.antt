@@ -1,19 +1,21 @@
 -- A refused call leaves every word and byte as it was. Assumes nothing.
 use mathlib.Core.Path.{◌≡◌, refl, ap, ◌∙◌}
-use Prim.Native.Nat.{ℕ}
+use Prim.Native.Nat.{ℕ, ◌*◌}
 use mathlib.Core.List.{List}
 use mathlib.Core.Option.{Option}
+use lib.Dec.{leb}
 use lib.IntN.{ℤ}
 use lib.ListN.{length}
 use Rattle.error.proofs.Answers.{never}
-use Rattle.error.specs.Answer.{Answer, accepted, refused, and_then}
+use Rattle.error.specs.Answer.{Answer, accepted, refused, ask, and_then}
 use Rattle.error.specs.declared.Refusal.{Refusal}
 use Rattle.demuxer.specs.Read.{ReadAnswer, End}
 use Rattle.demuxer.specs.Read as read
 use Rattle.demuxer.proofs.Outcomes.{refused-stays}
 use Rattle.demuxer.specs.declared.walker.Walker.{Walker}
-use Rattle.chunk_index.specs.Index.{build_of}
-use Rattle.chunk_index.proofs.Sentences.{index_sentences}
+use Rattle.chunk_index.specs.Entry.{entry_len}
+use Rattle.chunk_index.specs.Index.{index_of, built_from, build_of}
+use Rattle.chunk_index.specs.declared.entry.ChunkIndexEntry.{ChunkIndexEntry}
 use Rattle.seek.specs.Seek.{seek_of}
 use Rattle.seek.proofs.Sentences.{seek_sentences}
 use Rattle.muxer.proofs.Writes.{header_refused, packet-refused, trailer-refused}
@@ -25,8 +27,6 @@ use Rattle.sound.proofs.Sentences.{sound_sentences}
 use Rattle.recording.specs.Machine.{Call}
 use Rattle.recording.specs.WriteLists.{WriteCall, header, packet, trailer, write_step}
 use Rattle.registers.specs.Registers.{command_in, stepped_from, step_of}
-use Rattle.widen.specs.Widen.{widen_of}
-use Rattle.widen.proofs.Sentences.{widen_sentences}
 use Rattle.words.specs.Out.{given, checked, unless_refused, shown_words, read_words}
 use Rattle.words.specs.State.{walker_of, walker_words, writer_of, writer_words}
 use Rattle.words.proofs.States.{words_stand}
@@ -35,6 +35,14 @@ use Rattle.capi.specs.Lists.{step}
 use Rattle.capi.specs.Refusals.{RefusalsKeep}
 
 -- ---- the calls
+
+index_keeps : (file table : List ℕ) (r : Refusal) → given single (build_of file table).answer ≡ refused r → (build_of file table).table ≡ table
+unfolding build_of
+index_keeps file table r = go (and_then (index_of file) (λ es. ask (leb (entry_len * length es) (length table)) 40 0 (accepted es)))
+  where
+    go : (a : Answer (List ChunkIndexEntry)) → given single (built_from table a).answer ≡ refused r → (built_from table a).table ≡ table
+    go (accepted es) h = never h
+    go (refused q) h = refl
 
 -- a count that was refused
 count-refused : (a : Answer ℕ) (r : Refusal) → given single a ≡ refused r → a ≡ refused r
@@ -109,8 +117,7 @@ writer_keeps buf ws c r l (accepted w) e h =
 pub refusals_keep : RefusalsKeep
 refusals_keep =
     record {
-      index = λ file table r h. index_sentences.gives_back file table r (count-refused (build_of file table).answer r h);
-      widen = λ old table r h. widen_sentences.gives_back old table r (count-refused (widen_of old table).answer r h);
+      index = index_keeps;
       page = λ table page r h. page_sentences.gives_back table page r (count-refused (print_of table page).answer r h);
       samples = λ block samples r h. sound_sentences.gives_back block samples r (count-refused (decode_of block samples).answer r h);
       next = λ file ws r l h. walker_keeps ws (next_answer file) (next_walker file) r l (λ w h. refused-stays file w (read_refused w _ h)) (walker_of ws) refl h;

@@ -15,7 +15,6 @@ use Rattle.page.specs.Page.{print_of}
 use Rattle.sound.specs.Sound.{decode_of}
 use Rattle.finished.specs.declared.Totals.{Totals}
 use Rattle.registers.specs.Registers.{step_of}
-use Rattle.widen.specs.Widen.{widen_of}
 use Rattle.words.specs.Out.{OutSays, given, checked, unless_refused, shown_words, read_words, prelude_words}
 use Rattle.words.specs.State.{mark_word, walker_of, walker_words, writer_of, writer_words}
 
@@ -40,10 +39,6 @@ check_answer file = given totals_words (check_of file)
 -- count
 abbrev pub index_answer : List ℕ → List ℕ → Answer (List ℕ)
 index_answer file table = given single (build_of file table).answer
-
--- count, of an old table
-abbrev pub widen_answer : List ℕ → List ℕ → Answer (List ℕ)
-widen_answer old table = given single (widen_of old table).answer
 
 -- lines
 abbrev pub page_answer : List ℕ → List ℕ → Answer (List ℕ)

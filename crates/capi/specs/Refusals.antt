@@ -6,17 +6,15 @@ use Rattle.chunk_index.specs.Index.{build_of}
 use Rattle.page.specs.Page.{print_of}
 use Rattle.sound.specs.Sound.{decode_of}
 use Rattle.recording.specs.WriteLists.{WriteCall}
-use Rattle.widen.specs.Widen.{widen_of}
 use Rattle.words.specs.Out.{checked}
 use Rattle.words.specs.State.{walker_of, writer_of}
-use Rattle.capi.specs.Calls.{index_answer, widen_answer, page_answer, samples_answer, walker_after_call, next_answer, next_walker, seek_answer, seek_walker}
+use Rattle.capi.specs.Calls.{index_answer, page_answer, samples_answer, walker_after_call, next_answer, next_walker, seek_answer, seek_walker}
 use Rattle.capi.specs.Calls.{step_answer, step_walker, block_after_call, writer_after_call, buffer_after_call}
 use Rattle.capi.specs.Lists.{step}
 
 -- every word of the state, every byte of the table, page, block or buffer and every sample is as it was
 pub record RefusalsKeep : Type 0 where
   pub index : (file table : List ℕ) (r : Refusal) → index_answer file table ≡ refused r → (build_of file table).table ≡ table
-  pub widen : (old table : List ℕ) (r : Refusal) → widen_answer old table ≡ refused r → (widen_of old table).table ≡ table
   pub page : (table page : List ℕ) (r : Refusal) → page_answer table page ≡ refused r → (print_of table page).page ≡ page
   pub samples : (block : List ℕ) (samples : List ℤ) (r : Refusal) → samples_answer block samples ≡ refused r
       → (decode_of block samples).samples ≡ samples

@@ -5,16 +5,15 @@ ghost use Rattle.error.specs.Answer.{accepted};
 ghost use Rattle.chunk.specs.Interleave.{interleave};
 ghost use Rattle.duration.specs.Duration.{packed_of, run_length};
 ghost use Rattle.prelude.specs.Prelude.{said_prelude, parse_of, strict_of};
-ghost use Rattle.chunk_index.specs.Index.{build_of, said_index};
-ghost use Rattle.widen.specs.Widen.{widen_of};
+ghost use Rattle.chunk_index.specs.Index.{build_of};
 ghost use Rattle.page.specs.Page.{print_of};
 ghost use Rattle.sound.specs.Sound.{decode_of};
 ghost use Rattle.muxer.specs.Writer.{header_call, packet_call, trailer_call};
 ghost use Rattle.registers.specs.Registers as registers;
 ghost use Rattle.registers.specs.Steps.{call_of};
-ghost use Rattle.words.specs.Out.{OutSays, checked, given};
+ghost use Rattle.words.specs.Out.{OutSays, checked};
 ghost use Rattle.words.specs.State.{walker_of};
-ghost use Rattle.capi.specs.Calls.{single, summary_answer, check_answer, index_answer, widen_answer, page_answer, parse_answer, samples_answer};
+ghost use Rattle.capi.specs.Calls.{summary_answer, check_answer, index_answer, page_answer, parse_answer, samples_answer};
 ghost use Rattle.capi.specs.Calls.{WalkerCall, next_answer, next_walker, seek_answer, seek_walker, StepCall, WriterCall};
 ghost use Rattle.capi.specs.Steps.{DoneInWords, Performs, read_performed, seek_performed};
 
@@ -29,7 +28,6 @@ use prelude::prelude::{AmvPrelude, AmvPreludeResult};
 use registers::{Command, CommandResult, Told, command_in, signed, write_block};
 use seek::{SeekResult, seek_to_via_index};
 use sound::{SamplesResult, decode_block};
-use widen::widen_index;
 use words::out::{packet_out, prelude_out, result_out};
 use words::walker::{WalkerState, at_position, mark_word, walker_of, walker_words};
 use words::writer::{WriterState, at_counts, writer_of, writer_words};
@@ -95,11 +93,13 @@ pub extern "C" fn amv_check(file: &[u8], out: &mut [u64; 6]) -> u32
     }
 }
 
-// The number of records that a table was filled with, or the refusal.
-fn index_out(res: IndexResult, out: &mut [u64; 2]) -> u32
-    ensures { OutSays 2 (given single (said_index res)) result out.new }
+// The index of a file into a table, for the jumps; gives the number of records. Refuses with 10, 31 and 40.
+#[unsafe(no_mangle)]
+pub extern "C" fn amv_build_chunk_index(file: &[u8], table: &mut [u8], out: &mut [u64; 2]) -> u32
+    ensures out_says { OutSays 2 (index_answer file.now table.old) result out.new }
+    ensures table_after { table.new ≡ (build_of file.now table.old).table }
 {
-    match res {
+    match build_chunk_index(file, table) {
         IndexResult::Ok(count) => {
             *out = [0, count as u64];
             0
@@ -111,25 +111,7 @@ fn index_out(res: IndexResult, out: &mut [u64; 2]) -> u32
     }
 }
 
-// The index of a file into a table, for the jumps; gives the number of records. Refuses with 10, 31 and 40.
-#[unsafe(no_mangle)]
-pub extern "C" fn amv_build_chunk_index(file: &[u8], table: &mut [u8], out: &mut [u64; 2]) -> u32
-    ensures out_says { OutSays 2 (index_answer file.now table.old) result out.new }
-    ensures table_after { table.new ≡ (build_of file.now table.old).table }
-{
-    index_out(build_chunk_index(file, table), out)
-}
-
-// A table of before, of 24-byte records, into one of the records that the jumps take; gives their number. Refuses with 41 and 40.
-#[unsafe(no_mangle)]
-pub extern "C" fn amv_widen_index(old: &[u8], table: &mut [u8], out: &mut [u64; 2]) -> u32
-    ensures out_says { OutSays 2 (widen_answer old.now table.old) result out.new }
-    ensures table_after { table.new ≡ (widen_of old.now table.old).table }
-{
-    index_out(widen_index(old, table), out)
-}
-
-// The page of an index for the strip printer: a line of 40 columns for each record; gives the number of lines. Refuses with 41, 43, 70, 76 and 40.
+// The page of an index for the strip printer: a line of 40 columns for each record; gives the number of lines. Refuses with 41, 43, 70 and 40.
 #[unsafe(no_mangle)]
 pub extern "C" fn amv_print_index(table: &[u8], page: &mut [u8], out: &mut [u64; 2]) -> u32
     ensures out_says { OutSays 2 (page_answer table.now page.old) result out.new }

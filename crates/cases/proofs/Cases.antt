@@ -17,7 +17,7 @@ use Rattle.demuxer.specs.Position.{in_range}
 use Rattle.demuxer.specs.Read.{read_frame, read_sound, read_chunk, read_of}
 use Rattle.walk.specs.Walk.{step_at, walk_for, walk}
 use Rattle.walk.specs.Chunks.{chunk_bytes, chunks_bytes}
-use Rattle.chunk_index.specs.Entry.{record_at, record_bytes, records_bytes, records_from}
+use Rattle.chunk_index.specs.Entry.{entry_bytes, table_bytes, entry_at, entries_from}
 use Rattle.chunk_index.specs.Index.{records, tags_known, index_of}
 use Rattle.chunk_index.specs.Summary.{counts_from, summary_of}
 use Rattle.table.specs.Table.{ask_each}
@@ -29,7 +29,7 @@ use Rattle.cases.specs.Example.{E}
 pub cases : Cases
 unfolding le le_bytes packed_of run_length of_seconds run_length_before interleave_from header_fields header_sentinels cb_size_of wave_format_fields wave_format_of
     wave_format_sentinels prelude_bytes layout ask_word ask_body ask_items prelude_fields parse_of zeros zero_ranges validated_of strict_of preamble_of head_at count_of
-    payload_of shown_of in_range read_frame read_sound read_chunk read_of step_at walk_for walk chunk_bytes chunks_bytes record_bytes records_bytes record_at records_from
+    payload_of shown_of in_range read_frame read_sound read_chunk read_of step_at walk_for walk chunk_bytes chunks_bytes entry_bytes table_bytes entry_at entries_from
     records tags_known index_of counts_from summary_of ask_each seek_questions find past_last seek_of tags_of check_from check_of E
 cases =
     record {

@@ -13,7 +13,7 @@ use Rattle.demuxer.specs.Position.{in_range}
 use Rattle.demuxer.specs.Read.{read_frame, read_sound, read_chunk, read_of}
 use Rattle.walk.specs.Walk.{step_at, walk_for, walk}
 use Rattle.walk.specs.Chunks.{chunk_bytes, chunks_bytes}
-use Rattle.chunk_index.specs.Entry.{record_at, record_bytes, records_bytes, records_from}
+use Rattle.chunk_index.specs.Entry.{entry_bytes, table_bytes, entry_at, entries_from}
 use Rattle.chunk_index.specs.Index.{records, tags_known, index_of}
 use Rattle.finished.specs.Check.{tags_of, check_from, check_of}
 use Rattle.table.specs.Table.{ask_each}
@@ -26,7 +26,7 @@ use Rattle.cases.specs.Jumps.{after316, J, ran, Jumps}
 pub jumps : Jumps
 unfolding interleave_from le le_bytes header_fields header_sentinels preamble_of cb_size_of wave_format_fields wave_format_sentinels prelude_bytes layout ask_word ask_body
     ask_items prelude_fields parse_of zeros zero_ranges validated_of strict_of head_at count_of in_range read_frame read_sound read_chunk read_of step_at walk_for walk
-    chunk_bytes chunks_bytes record_bytes records_bytes record_at records_from records tags_known index_of tags_of check_from check_of ask_each seek_questions find past_last
+    chunk_bytes chunks_bytes entry_bytes table_bytes entry_at entries_from records tags_known index_of tags_of check_from check_of ask_each seek_questions find past_last
     seek_of drain_from first machine_step call wholes_of recorded_of file_step after316 J ran
 jumps =
     record {

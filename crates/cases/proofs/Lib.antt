@@ -9,4 +9,3 @@ pub mod Words
 pub mod Registers
 pub mod Cut
 pub mod Jumps
-pub mod Widening

@@ -2,10 +2,10 @@
 use mathlib.Core.Path.{◌≡◌, refl, ap, ◌∙◌}
 use mathlib.Core.Bool.{Bool, true, false, cond}
 use mathlib.Core.List.{List, []}
-use Prim.Native.Nat.{ℕ, ◌+◌, ◌-◌}
+use Prim.Native.Nat.{ℕ}
 use lib.ListN.{length}
 use Rattle.error.specs.Answer.{Answer, accepted, refused}
-use Rattle.fields.specs.File.{file_limit, within_limit}
+use Rattle.fields.specs.File.{within_limit}
 use Rattle.fields.specs.Le.{le, le_bytes, put}
 use Rattle.chunk.specs.Chunk.{chunk_header_of}
 use Rattle.chunk.specs.Interleave.{interleave_from}
@@ -22,7 +22,7 @@ use Rattle.demuxer.specs.declared.walker.Walker.{Walker}
 use Rattle.demuxer.proofs.Steps.{read_ended}
 use Rattle.walk.specs.Walk.{step_at, walk_for, walk}
 use Rattle.walk.specs.Chunks.{chunk_bytes, chunks_bytes}
-use Rattle.chunk_index.specs.Entry.{record_at, record_bytes, records_bytes, records_from}
+use Rattle.chunk_index.specs.Entry.{entry_bytes, table_bytes, entry_at, entries_from}
 use Rattle.chunk_index.specs.Index.{records, tags_known, index_of, build_of}
 use Rattle.chunk_index.specs.Summary.{counts_from, summary_of}
 use Rattle.table.specs.Table.{ask_each}
@@ -38,11 +38,11 @@ use Rattle.cases.specs.Numbers.{over, writer_at, P, T, Numbers}
 no-then : {A : Type 0} {t : Bool} (x y : A) → t ≡ false → cond t x y ≡ y
 no-then x y e = rw e
 
-read-long : (file : List ℕ) (w : Walker) → length file ≡ file_limit + 1 → read_of file w ≡ refuse 10 0 w
+read-long : (file : List ℕ) (w : Walker) → length file ≡ 4294967296 → read_of file w ≡ refuse 10 0 w
 unfolding read_of
 read-long file w e = no-then {t = within_limit file} _ _ (rw e)
 
-read-longest : (file : List ℕ) → length file ≡ file_limit → read_of file over ≡ record { answer = End; walker = over }
+read-longest : (file : List ℕ) → length file ≡ 4294967295 → read_of file over ≡ record { answer = End; walker = over }
 unfolding in_range
 read-longest file e = read_ended file over (rw e) refl refl
 
@@ -63,12 +63,11 @@ trailer-asked w buf = asked (trailer_questions w (length buf)) w _ buf _
 pub numbers : Numbers
 unfolding le le_bytes put interleave_from header_fields header_of header_sentinels cb_size_of wave_format_fields wave_format_sentinels preamble_of chunk_header_of
     prelude_bytes layout ask_word ask_body ask_items prelude_fields parse_of zeros zero_ranges validated_of strict_of head_at count_of in_range read_frame read_sound
-    read_chunk read_of step_at walk_for walk chunk_bytes chunks_bytes record_bytes records_bytes record_at records_from records tags_known index_of build_of counts_from summary_of
+    read_chunk read_of step_at walk_for walk chunk_bytes chunks_bytes entry_bytes table_bytes entry_at entries_from records tags_known index_of build_of counts_from summary_of
     ask_each seek_questions find past_last seek_of tags_of check_from check_of header_questions header_call packet_questions packet_call trailer_questions trailer_call E
     P T
 numbers =
     record {
-      limit = refl;
       ten_parse = λ file e. rw e;
       ten_strict = λ file e. rw e;
       ten_read = λ file w e. ap (λ (q : Reading). q.answer) (read-long file w e);
@@ -125,9 +124,6 @@ numbers =
       forty_three = refl;
       forty_three_samples = refl;
       forty_three_not = refl;
-      forty_three_offset = refl;
-      forty_three_far = refl;
-      forty_three_offset_not = refl;
       forty_three_second = refl;
       fifty = refl;
       fifty_one_packet = refl;
@@ -141,8 +137,8 @@ numbers =
       fifty_four_packet_not = refl;
       fifty_four_trailer = refl;
       fifty_four_trailer_not = refl;
-      fifty_four_limit = λ buf e. trailer-asked (writer_at true false (file_limit - 7)) buf ∙ rw e;
-      fifty_four_limit_not = λ buf e. trailer-asked (writer_at true false (file_limit - 8)) buf ∙ rw e;
+      fifty_four_limit = λ buf e. trailer-asked (writer_at true false 4294967288) buf ∙ rw e;
+      fifty_four_limit_not = λ buf e. trailer-asked (writer_at true false 4294967287) buf ∙ rw e;
       fifty_five_header = refl;
       fifty_five_packet = refl;
       fifty_five_trailer = refl;

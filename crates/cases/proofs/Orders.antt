@@ -15,7 +15,7 @@ use Rattle.prelude.specs.Layout.{layout, ask_word, ask_body, ask_items}
 use Rattle.prelude.specs.Prelude.{prelude_fields, parse_of, zeros, zero_ranges, validated_of, strict_of}
 use Rattle.demuxer.specs.Position.{in_range}
 use Rattle.demuxer.specs.Read.{read_of}
-use Rattle.chunk_index.specs.Entry.{record_at, record_bytes, records_bytes, records_from}
+use Rattle.chunk_index.specs.Entry.{entry_bytes, table_bytes, entry_at, entries_from}
 use Rattle.table.specs.Table.{ask_each}
 use Rattle.seek.specs.Seek.{seek_questions, find, past_last, seek_of}
 use Rattle.seek.specs.StreamFirst.{questions_before, seek_before}
@@ -29,7 +29,7 @@ pub orders : Orders
 unfolding le le_bytes put interleave_from header_fields header_sentinels cb_size_of wave_format_fields wave_format_sentinels preamble_of chunk_header_of prelude_bytes
     layout ask_word ask_body ask_items prelude_fields parse_of zeros zero_ranges validated_of strict_of in_range read_of check_of header_questions header_call
     packet_questions packet_call trailer_questions trailer_call patch_run_length packed_of unpacked_of run_length of_seconds run_length_before spoiling each_first
-    each_cut P chunk_header_at record_bytes records_bytes record_at records_from ask_each seek_questions find past_last seek_of questions_before seek_before
+    each_cut P chunk_header_at entry_bytes table_bytes entry_at entries_from ask_each seek_questions find past_last seek_of questions_before seek_before
 orders =
     record {
       parsed = refl;

@@ -7,7 +7,7 @@ use Rattle.demuxer.specs.Head.{head_at, count_of}
 use Rattle.demuxer.specs.Position.{in_range}
 use Rattle.demuxer.specs.Read.{read_frame, read_sound, read_chunk, read_of}
 use Rattle.walk.specs.Chunks.{chunk_bytes, chunks_bytes}
-use Rattle.chunk_index.specs.Entry.{record_at, record_bytes, records_bytes, records_from}
+use Rattle.chunk_index.specs.Entry.{entry_bytes, table_bytes, entry_at, entries_from}
 use Rattle.table.specs.Table.{ask_each}
 use Rattle.seek.specs.Seek.{seek_questions, find, past_last, seek_of}
 use Rattle.recording.specs.Machine.{call}
@@ -17,8 +17,8 @@ use Rattle.cases.specs.Numbers.{P, T}
 use Rattle.cases.specs.Registers.{Registers}
 
 pub registers : Registers
-unfolding le le_bytes put preamble_of prelude_bytes head_at count_of in_range read_frame read_sound read_chunk read_of chunk_bytes chunks_bytes record_bytes records_bytes
-    record_at records_from ask_each seek_questions find past_last seek_of call commanded command_in pending_of block_after step_of E P T
+unfolding le le_bytes put preamble_of prelude_bytes head_at count_of in_range read_frame read_sound read_chunk read_of chunk_bytes chunks_bytes entry_bytes table_bytes
+    entry_at entries_from ask_each seek_questions find past_last seek_of call commanded command_in pending_of block_after step_of E P T
 registers =
     record {
       seventy_four_0 = λ file table w. refl;

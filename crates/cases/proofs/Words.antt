@@ -13,7 +13,7 @@ use Rattle.demuxer.specs.Position.{in_range}
 use Rattle.demuxer.specs.Read.{read_frame, read_sound, read_chunk, read_of}
 use Rattle.walk.specs.Walk.{step_at, walk_for, walk}
 use Rattle.walk.specs.Chunks.{chunk_bytes, chunks_bytes}
-use Rattle.chunk_index.specs.Entry.{record_at, record_bytes, records_bytes, records_from}
+use Rattle.chunk_index.specs.Entry.{entry_bytes, table_bytes, entry_at, entries_from}
 use Rattle.chunk_index.specs.Index.{records, tags_known, index_of, build_of}
 use Rattle.chunk_index.specs.Summary.{counts_from, summary_of}
 use Rattle.table.specs.Table.{ask_each}
@@ -21,7 +21,6 @@ use Rattle.text.specs.Text.{digits, right}
 use Rattle.page.specs.Page.{page_line, page_lines, page_questions, print_of}
 use Rattle.seek.specs.Seek.{seek_questions, find, past_last, seek_of}
 use Rattle.finished.specs.Check.{tags_of, check_from, check_of}
-use Rattle.widen.specs.Widen.{widen_of}
 use Rattle.words.specs.State.{walker_legal, settings_legal, writer_legal}
 use Rattle.cases.specs.Example.{E}
 use Rattle.cases.specs.Numbers.{P, T}
@@ -30,8 +29,8 @@ use Rattle.cases.specs.Words.{Words}
 pub words : Words
 unfolding le le_bytes put interleave_from header_fields header_sentinels cb_size_of wave_format_fields wave_format_sentinels preamble_of prelude_bytes layout ask_word
     ask_body ask_items prelude_fields parse_of zeros zero_ranges validated_of strict_of head_at count_of in_range read_frame read_sound read_chunk read_of step_at walk_for walk
-    chunk_bytes chunks_bytes record_bytes records_bytes record_at records_from records tags_known index_of build_of counts_from summary_of ask_each seek_questions find
-    past_last seek_of digits right page_line page_lines page_questions print_of widen_of tags_of check_from check_of walker_legal settings_legal writer_legal E P T
+    chunk_bytes chunks_bytes entry_bytes table_bytes entry_at entries_from records tags_known index_of build_of counts_from summary_of ask_each seek_questions find
+    past_last seek_of digits right page_line page_lines page_questions print_of tags_of check_from check_of walker_legal settings_legal writer_legal E P T
 words =
     record {
       walker = refl;
@@ -42,7 +41,6 @@ words =
       end = refl;
       seek = refl;
       index = refl;
-      widen = refl;
       page = refl;
       summary = refl;
       check = refl;

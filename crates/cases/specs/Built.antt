@@ -57,7 +57,7 @@ fields =
 pub record Built : Type 0 where
   -- "`build_prelude_bytes` gives 316 (0x13C) bytes, all zero except: .."
   pub prelude : prelude_bytes 7 9 12 289 8000 3 ≡ filled (replicate 316 0) fields
-  -- "tag, u32 offset, u32 frames before, u32 blocks before, u64 samples before"; 02: "28 bytes, its offset a u64; the other fields keep their widths"
+  -- "Records are 24 bytes, no header: tag, u32 offset, u32 frames before, u32 blocks before, u64 samples before."
   pub entry :
       entry_bytes (record { tag = 0x63643030; position = position 1 2 3 4 })
-      ≡ 0x30 ∷ 0x30 ∷ 0x64 ∷ 0x63 ∷ 1 ∷ 0 ∷ 0 ∷ 0 ∷ 0 ∷ 0 ∷ 0 ∷ 0 ∷ 2 ∷ 0 ∷ 0 ∷ 0 ∷ 4 ∷ 0 ∷ 0 ∷ 0 ∷ 3 ∷ 0 ∷ 0 ∷ 0 ∷ 0 ∷ 0 ∷ 0 ∷ 0 ∷ []
+      ≡ 0x30 ∷ 0x30 ∷ 0x64 ∷ 0x63 ∷ 1 ∷ 0 ∷ 0 ∷ 0 ∷ 2 ∷ 0 ∷ 0 ∷ 0 ∷ 4 ∷ 0 ∷ 0 ∷ 0 ∷ 3 ∷ 0 ∷ 0 ∷ 0 ∷ 0 ∷ 0 ∷ 0 ∷ 0 ∷ []

@@ -19,7 +19,6 @@ use Rattle.chunk_index.specs.Summary.{summary_of}
 use Rattle.chunk_index.specs.declared.entry.ChunkIndexEntry.{ChunkIndexEntry}
 use Rattle.seek.specs.Seek.{seek_of}
 use Rattle.finished.specs.Check.{check_of}
-use Rattle.widen.specs.Old.{old_table_bytes}
 use Rattle.cases.specs.Example.{E}
 
 -- a header that differs from a device's only in these two
@@ -53,7 +52,7 @@ abbrev pub position : ℕ → ℕ → ℕ → ℕ → Position
 position cursor frames samples blocks =
     record { cursor = cursor; frames = record { 0 = frames }; samples = record { 0 = samples }; blocks = record { 0 = blocks } }
 
--- the two records of E, its own index, and the one that it had by 01, before 02's M-108
+-- the two records of E, and its own index
 abbrev pub first_record : ChunkIndexEntry
 first_record = record { tag = video_tag; position = position 316 0 0 0 }
 
@@ -62,9 +61,6 @@ second_record = record { tag = audio_tag; position = position 327 1 0 0 }
 
 abbrev pub own_index : List ℕ
 own_index = table_bytes (first_record ∷ second_record ∷ [])
-
-abbrev pub old_index : List ℕ
-old_index = old_table_bytes (first_record ∷ second_record ∷ [])
 
 -- the first n bytes of E: what a first read gives, and a second
 abbrev pub first_read : ℕ → ReadAnswer

@@ -1,7 +1,6 @@
 -- A case for every number of document 01, from its text, with the smallest input; and a recording that tells the totals apart. Assumes nothing.
-use Rattle.std.specs.Prelude.{◌≡◌, Bool, true, false, List, [], ◌∷◌, ◌++◌, ℕ, ◌+◌, ◌-◌, ◌*◌, ◌^◌, pos, length, take, replicate}
+use Rattle.std.specs.Prelude.{◌≡◌, Bool, true, false, List, [], ◌∷◌, ◌++◌, ℕ, ◌+◌, ◌-◌, ◌^◌, pos, length, take, replicate}
 use Rattle.error.specs.Answer.{Answer, accepted, refused, numbered}
-use Rattle.fields.specs.File.{file_limit}
 use Rattle.fields.specs.Le.{put}
 use Rattle.chunk.specs.Chunk.{video_tag, audio_tag, trailer_bytes, chunk_header_of}
 use Rattle.chunk.specs.Interleave.{interleave}
@@ -15,7 +14,7 @@ use Rattle.demuxer.specs.Read as read
 use Rattle.demuxer.specs.declared.walker.Trailer.TheVariants.{NotMet}
 use Rattle.demuxer.specs.declared.walker.Walker.{Walker}
 use Rattle.walk.specs.Chunks.{Chunk, chunk_of, chunks_bytes}
-use Rattle.chunk_index.specs.Entry.{entry_len, entry_bytes}
+use Rattle.chunk_index.specs.Entry.{entry_bytes}
 use Rattle.chunk_index.specs.Index.{index_of, build_of}
 use Rattle.chunk_index.specs.Summary.{summary_of}
 use Rattle.walk.specs.declared.Kind.TheVariants.{Frame, Sound}
@@ -52,12 +51,9 @@ reads file w = (read_of file w).answer
 abbrev pub seeks : List ℕ → Walker → ℕ → Answer ℕ
 seeks table w stream = (seek_of table w stream (pos 0)).answer
 
--- a record's bytes, by its samples and by its offset
+-- a record's bytes
 abbrev pub record_of : ℕ → ℕ → List ℕ
 record_of tag samples = entry_bytes (record { tag = tag; position = position 316 0 samples 0 })
-
-abbrev pub record_from : ℕ → ℕ → List ℕ
-record_from tag offset = entry_bytes (record { tag = tag; position = position offset 0 0 0 })
 
 -- a writer with these marks and so many bytes written
 abbrev pub writer_at : Bool → Bool → ℕ → Writer
@@ -84,16 +80,14 @@ unfoldable pub T : List ℕ
 T = then (chunks_bytes chunks_t ++ trailer_bytes)
 
 pub record Numbers : Type 0 where
-  -- 02, M-108: "Sixteen GiB"
-  pub limit : file_limit ≡ 16 * 1024 ^ 3
-  -- "File within the limit? 10": of every call that asks it, and of every file of one byte more than the limit
-  pub ten_parse : (file : List ℕ) → length file ≡ file_limit + 1 → parse_of file ≡ no 10 0
-  pub ten_strict : (file : List ℕ) → length file ≡ file_limit + 1 → strict_of file ≡ no 10 0
-  pub ten_read : (file : List ℕ) (w : Walker) → length file ≡ file_limit + 1 → reads file w ≡ read.refused (numbered 10 0)
-  pub ten_index : (file : List ℕ) → length file ≡ file_limit + 1 → index_of file ≡ no 10 0
-  pub ten_summary : (file : List ℕ) → length file ≡ file_limit + 1 → summary_of file ≡ no 10 0
-  pub ten_check : (file : List ℕ) → length file ≡ file_limit + 1 → check_of file ≡ no 10 0
-  pub ten_not : (file : List ℕ) → length file ≡ file_limit → reads file over ≡ End
+  -- "File within the limit? 10": of every call that asks it, and of every file of one byte more than 4,294,967,295
+  pub ten_parse : (file : List ℕ) → length file ≡ 4294967296 → parse_of file ≡ no 10 0
+  pub ten_strict : (file : List ℕ) → length file ≡ 4294967296 → strict_of file ≡ no 10 0
+  pub ten_read : (file : List ℕ) (w : Walker) → length file ≡ 4294967296 → reads file w ≡ read.refused (numbered 10 0)
+  pub ten_index : (file : List ℕ) → length file ≡ 4294967296 → index_of file ≡ no 10 0
+  pub ten_summary : (file : List ℕ) → length file ≡ 4294967296 → summary_of file ≡ no 10 0
+  pub ten_check : (file : List ℕ) → length file ≡ 4294967296 → check_of file ≡ no 10 0
+  pub ten_not : (file : List ℕ) → length file ≡ 4294967295 → reads file over ≡ End
   -- "does the file reach its end? 11. Tag equal? 12. Size equal? 13. Place: its start. Where a tag is present but its size is cut, .. 11"
   pub eleven : parse_of [] ≡ no 11 0
   pub eleven_size : parse_of (take 28 E) ≡ no 11 28
@@ -144,20 +138,16 @@ pub record Numbers : Type 0 where
   pub thirty_two_blocks : reads [] (walker_at 0 0 0 (2 ^ 62 + 1)) ≡ read.refused (numbered 32 0)
   pub thirty_two_seek : seeks [] (walker_at (2 ^ 62 + 1) 0 0 0) 0 ≡ no 32 0
   -- "Table holds all records? 40, place 0, after the walk."
-  pub forty : build_of E (zeroed (2 * entry_len - 1)) ≡ record { answer = no 40 0; table = zeroed (2 * entry_len - 1) }
-  pub forty_not : (build_of E (zeroed (2 * entry_len))).answer ≡ accepted 2
+  pub forty : build_of E (zeroed 47) ≡ record { answer = no 40 0; table = zeroed 47 }
+  pub forty_not : (build_of E (zeroed 48)).answer ≡ accepted 2
   pub forty_last : (build_of (then (zeroed 8)) []).answer ≡ no 31 316
-  -- "whole 24s? 41", by 02 28s. "Stream 0 or 1? 42. Tags known and samples below 2^62? 43, place of the record's start." (their order: cases/Orders)
+  -- "whole 24s? 41. Stream 0 or 1? 42. Tags known and samples below 2^62? 43, place of the record's start." (their order: cases/Orders)
   pub forty_one : seeks (0 ∷ []) fresh 0 ≡ no 41 0
   pub forty_two : seeks [] fresh 2 ≡ no 42 0
-  pub forty_three : seeks (zeroed entry_len) fresh 0 ≡ no 43 0
+  pub forty_three : seeks (zeroed 24) fresh 0 ≡ no 43 0
   pub forty_three_samples : seeks (record_of video_tag (2 ^ 62)) fresh 0 ≡ no 43 0
   pub forty_three_not : seeks (record_of audio_tag (2 ^ 62 - 1)) fresh 1 ≡ accepted (2 ^ 62 - 1)
-  -- 02, M-108: "43 also turns away an offset above the limit", and not one at it
-  pub forty_three_offset : seeks (record_from video_tag (file_limit + 1)) fresh 0 ≡ no 43 0
-  pub forty_three_far : seeks (record_from video_tag (2 ^ 64 - 1)) fresh 0 ≡ no 43 0
-  pub forty_three_offset_not : (seek_of (record_from video_tag file_limit) fresh 0 (pos 0)).walker.position ≡ position file_limit 0 0 0
-  pub forty_three_second : seeks (record_of video_tag 0 ++ zeroed entry_len) fresh 0 ≡ no 43 entry_len
+  pub forty_three_second : seeks (record_of video_tag 0 ++ zeroed 24) fresh 0 ≡ no 43 24
   -- "Header: not begun? 50. Packet and trailer: begun? 51."
   pub fifty : heads (writer_at true false 316) [] ≡ no 50 316
   pub fifty_one_packet : packs (writer_at false false 5) [] 0 [] ≡ no 51 5
@@ -173,8 +163,8 @@ pub record Numbers : Type 0 where
   pub fifty_four_packet_not : packs (writer_at true false 316) [] 1 (zeroed 324) ≡ accepted tt
   pub fifty_four_trailer : ends (writer_at true false 316) (zeroed 323) ≡ no 54 316
   pub fifty_four_trailer_not : ends (writer_at true false 316) (zeroed 324) ≡ accepted tt
-  pub fifty_four_limit : (buf : List ℕ) → length buf ≡ file_limit + 1 → ends (writer_at true false (file_limit - 7)) buf ≡ no 54 (file_limit - 7)
-  pub fifty_four_limit_not : (buf : List ℕ) → length buf ≡ file_limit + 1 → ends (writer_at true false (file_limit - 8)) buf ≡ accepted tt
+  pub fifty_four_limit : (buf : List ℕ) → length buf ≡ 4294967296 → ends (writer_at true false 4294967288) buf ≡ no 54 4294967288
+  pub fifty_four_limit_not : (buf : List ℕ) → length buf ≡ 4294967296 → ends (writer_at true false 4294967287) buf ≡ accepted tt
   -- "Not ended? 55 .. Begun implies at least 316 written? 56": of a header 55 where the state says ended and not begun
   pub fifty_five_header : heads (writer_at false true 5) [] ≡ no 55 5
   pub fifty_five_packet : packs (writer_at true true 5) [] 0 [] ≡ no 55 5

@@ -14,7 +14,7 @@ use Rattle.demuxer.specs.Read.{fresh}
 use Rattle.demuxer.specs.Read as read
 use Rattle.demuxer.specs.declared.walker.Trailer.TheVariants.{NotMet}
 use Rattle.demuxer.specs.declared.walker.Walker.{Walker}
-use Rattle.chunk_index.specs.Entry.{entry_len, entries_of}
+use Rattle.chunk_index.specs.Entry.{entries_of}
 use Rattle.table.specs.Table.{good_entry}
 use Rattle.table.specs.Sentences.{FirstNo, Good}
 use Rattle.seek.specs.StreamFirst.{seek_before, BothWrong}
@@ -88,7 +88,7 @@ pub record Orders : Type 0 where
   -- a seek, by 02 (M-104): 42, then 41, then 43, then 32
   pub stream_first_lem : seeks (zeroed 25) farther 2 ≡ no 42 0
   pub length_second : seeks (zeroed 25) farther 1 ≡ no 41 0
-  pub records_third : seeks (zeroed entry_len) farther 1 ≡ no 43 0
+  pub records_third : seeks (zeroed 24) farther 1 ≡ no 43 0
   pub walker_last : seeks own_index farther 1 ≡ no 32 0
   -- "from 41 to 42", where a byte is the table: the smallest input of what changed, with its answers by 01 and by 02
   pub stream_before : (seek_before (0 ∷ []) fresh 2 (pos 0)).answer ≡ no 41 0
@@ -98,7 +98,7 @@ pub record Orders : Type 0 where
   pub stream_alone : BothWrong [] 2 → ⊥
   pub table_alone : BothWrong (0 ∷ []) 1 → ⊥
   -- and those of seek/Sentences: a table whose first bad record is its second, and one without; a walker in range, and one out of it
-  pub second_bad : FirstNo good_entry (entries_of (record_of video_tag 0 ++ zeroed entry_len)) entry_len
+  pub second_bad : FirstNo good_entry (entries_of (record_of video_tag 0 ++ zeroed 24)) 24
   pub none_bad : Good own_index
   pub fresh_near : InRange fresh.position
   pub farther_not : InRange farther.position → ⊥

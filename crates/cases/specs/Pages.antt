@@ -1,13 +1,12 @@
 -- Document 02's page of the smallest tables, and a case for each of its numbers. Assumes nothing.
-use Rattle.std.specs.Prelude.{◌≡◌, List, [], ◌∷◌, ◌++◌, ℕ, ◌+◌, ◌-◌, ◌^◌, replicate}
+use Rattle.std.specs.Prelude.{◌≡◌, List, [], ◌∷◌, ◌++◌, ℕ, ◌-◌, ◌^◌, replicate}
 use Rattle.error.specs.Answer.{Answer, accepted}
-use Rattle.fields.specs.File.{file_limit}
 use Rattle.fields.specs.Le.{Bytes}
 use Rattle.chunk.specs.Chunk.{video_tag, audio_tag}
-use Rattle.chunk_index.specs.Entry.{entry_len, entry_bytes}
+use Rattle.chunk_index.specs.Entry.{entry_bytes}
 use Rattle.page.specs.Page.{print_of}
 use Rattle.cases.specs.Cases.{position, own_index}
-use Rattle.cases.specs.Numbers.{no, zeroed, record_of, record_from}
+use Rattle.cases.specs.Numbers.{no, zeroed, record_of}
 
 -- so many blanks, and what stands after them
 abbrev pub blank : ℕ → List ℕ → List ℕ
@@ -20,20 +19,13 @@ first_line = 86 ∷ blank 7 (51 ∷ 49 ∷ 54 ∷ blank 9 (48 ∷ blank 18 (48 �
 abbrev pub second_line : List ℕ
 second_line = 65 ∷ blank 7 (51 ∷ 50 ∷ 55 ∷ blank 9 (49 ∷ blank 18 (48 ∷ [])))
 
--- `4294967295`, the most frames, and `9999999999`, the farthest offset
+-- `4294967295`
 abbrev pub u32_digits : List ℕ
 u32_digits = 52 ∷ 50 ∷ 57 ∷ 52 ∷ 57 ∷ 54 ∷ 55 ∷ 50 ∷ 57 ∷ 53 ∷ []
 
-abbrev pub nines : ℕ → List ℕ
-nines n = replicate n 57
-
 -- a record of the largest numbers that have a line
 abbrev pub widest : List ℕ
-widest = entry_bytes (record { tag = audio_tag; position = position (10 ^ 10 - 1) (2 ^ 32 - 1) (10 ^ 18 - 1) 0 })
-
--- one whose offset and samples are both too wide
-abbrev pub twice_wide : List ℕ
-twice_wide = entry_bytes (record { tag = video_tag; position = position (10 ^ 10) 0 (10 ^ 18) 0 })
+widest = entry_bytes (record { tag = audio_tag; position = position (2 ^ 32 - 1) (2 ^ 32 - 1) (10 ^ 18 - 1) 0 })
 
 abbrev pub prints : List ℕ → ℕ → Answer ℕ
 prints table room = (print_of table (zeroed room)).answer
@@ -44,27 +36,16 @@ pub record Pages : Type 0 where
   -- E's own index, in a page of one byte more: "later bytes stay"
   pub example : print_of own_index (zeroed 81) ≡ record { answer = accepted 2; page = first_line ++ (second_line ++ zeroed 1) }
   -- each number fills its columns, but for column 22: "column 22 stays blank"
-  pub full : print_of widest (zeroed 40) ≡ record { answer = accepted 1; page = 65 ∷ (nines 10 ++ (u32_digits ++ blank 1 (nines 18))) }
+  pub full : print_of widest (zeroed 40) ≡ record { answer = accepted 1; page = 65 ∷ (u32_digits ++ (u32_digits ++ blank 1 (replicate 18 57))) }
   pub empty : print_of [] [] ≡ record { answer = accepted 0; page = [] }
   -- "70 when a sample count needs more than 18 digits .., place of the first such record"
   pub seventy : prints (record_of video_tag (10 ^ 18)) 40 ≡ no 70 0
   pub seventy_not : prints (record_of video_tag (10 ^ 18 - 1)) 40 ≡ accepted 1
-  pub seventy_second : prints (record_of video_tag 0 ++ record_of audio_tag (2 ^ 62 - 1)) 80 ≡ no 70 entry_len
-  -- M-108: "76, place of the record, when the page meets an offset over 9,999,999,999"
-  pub seventy_six : prints (record_from video_tag (10 ^ 10)) 40 ≡ no 76 0
-  pub seventy_six_limit : prints (record_from audio_tag file_limit) 40 ≡ no 76 0
-  pub seventy_six_not : prints (record_from video_tag (10 ^ 10 - 1)) 40 ≡ accepted 1
-  pub seventy_six_second : prints (record_from video_tag 316 ++ record_from audio_tag (10 ^ 10)) 80 ≡ no 76 entry_len
-  -- "once no record gives 70": of one record that gives both, and of two in either order
-  pub seventy_first : prints twice_wide 40 ≡ no 70 0
-  pub seventy_before : prints (record_from video_tag (10 ^ 10) ++ record_of video_tag (10 ^ 18)) 80 ≡ no 70 entry_len
-  pub seventy_after : prints (record_of video_tag (10 ^ 18) ++ record_from video_tag (10 ^ 10)) 80 ≡ no 70 0
+  pub seventy_second : prints (record_of video_tag 0 ++ record_of audio_tag (2 ^ 62 - 1)) 80 ≡ no 70 24
   -- "after 41 and 43 over the whole table"
   pub forty_one : prints (record_of 0 0 ++ zeroed 1) 0 ≡ no 41 0
-  pub forty_three : prints (record_of video_tag (10 ^ 18) ++ zeroed entry_len) 0 ≡ no 43 entry_len
+  pub forty_three : prints (record_of video_tag (10 ^ 18) ++ zeroed 24) 0 ≡ no 43 24
   pub forty_three_samples : prints (record_of audio_tag (2 ^ 62)) 0 ≡ no 43 0
-  pub forty_three_offset : prints (record_from video_tag (10 ^ 10) ++ record_from video_tag (file_limit + 1)) 0 ≡ no 43 entry_len
   -- "40 when the page buffer is too short, last"; a refused call leaves the page
   pub forty : print_of own_index (zeroed 79) ≡ record { answer = no 40 0; page = zeroed 79 }
   pub forty_last : prints (record_of video_tag (10 ^ 18)) 0 ≡ no 70 0
-  pub forty_last_offset : prints (record_from video_tag (10 ^ 10)) 0 ≡ no 76 0

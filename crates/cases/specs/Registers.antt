@@ -9,7 +9,7 @@ use Rattle.demuxer.specs.Read.{fresh}
 use Rattle.demuxer.specs.declared.walker.Trailer.{Trailer}
 use Rattle.demuxer.specs.declared.walker.Trailer.TheVariants.{At, NotMet}
 use Rattle.demuxer.specs.declared.walker.Walker.{Walker}
-use Rattle.chunk_index.specs.Entry.{entry_len, table_bytes}
+use Rattle.chunk_index.specs.Entry.{table_bytes}
 use Rattle.registers.specs.Registers.{Stepping, step_of}
 use Rattle.cases.specs.Cases.{position, own_index}
 use Rattle.cases.specs.Example.{E}
@@ -131,7 +131,7 @@ pub record Registers : Type 0 where
       (turn 1 0 [] (leaves none farther (registers 0 8 8 8 0 32 asked)) ∷ turn 2 8 [] (leaves none farther (registers 0 8 8 0 0 41 asked))
       ∷ turn 3 0 [] (leaves none farther (registers 0 8 8 0 0 41 asked)) ∷ turn 0 0 [] (leaves none farther (registers 0 0 8 0 0 0 asked)) ∷ [])
   pub refused_tag : step_of (then (zeroed 8)) [] fresh (registers 1 0 8 0 0 0 asked) ≡ leaves none fresh (registers 0 8 8 8 0 31 asked)
-  pub refused_record : step_of [] (zeroed entry_len) fresh (registers 3 0 8 0 0 0 asked) ≡ leaves none fresh (registers 0 8 8 8 0 43 asked)
+  pub refused_record : step_of [] (zeroed 24) fresh (registers 3 0 8 0 0 0 asked) ≡ leaves none fresh (registers 0 8 8 8 0 43 asked)
   pub refused_seek : step_of [] own_index farther (registers 2 0 8 0 0 0 asked) ≡ leaves none farther (registers 0 8 8 8 0 32 asked)
   -- a read asks nothing about the table, a seek nothing about the file, and the command 0 nothing at all
   pub any_table : (table : List ℕ)

@@ -1,13 +1,12 @@
 -- The order of the words in C: each word of a state and of an answer is another number. Assumes nothing.
-use Rattle.std.specs.Prelude.{◌≡◌, true, false, List, [], ◌∷◌, ℕ, ◌-◌, ◌*◌, ◌^◌, pos, replicate}
+use Rattle.std.specs.Prelude.{◌≡◌, true, false, List, [], ◌∷◌, ℕ, ◌-◌, ◌^◌, pos, replicate}
 use Rattle.error.specs.Answer.{Answer, accepted, refused, numbered}
 use Rattle.fields.specs.Le.{put}
 use Rattle.prelude.specs.Built.{prelude_bytes}
-use Rattle.chunk_index.specs.Entry.{entry_len}
 use Rattle.demuxer.specs.declared.walker.Trailer.TheVariants.{At, NotMet}
 use Rattle.words.specs.State.{walker_of, walker_words, writer_of, writer_words}
-use Rattle.capi.specs.Calls.{parse_answer, next_answer, seek_answer, index_answer, widen_answer, page_answer, summary_answer, check_answer}
-use Rattle.cases.specs.Cases.{position, own_index, old_index}
+use Rattle.capi.specs.Calls.{parse_answer, next_answer, seek_answer, index_answer, page_answer, summary_answer, check_answer}
+use Rattle.cases.specs.Cases.{position, own_index}
 use Rattle.cases.specs.Example.{E}
 use Rattle.cases.specs.Numbers.{walker_at, T}
 
@@ -45,8 +44,7 @@ pub record Words : Type 0 where
   pub end : next_answer T (walker_at 351 2 6 4) ≡ accepted (0 ∷ 0 ∷ 0 ∷ 0 ∷ 0 ∷ 0 ∷ [])
   -- "place, stamp", "place, count"
   pub seek : seek_answer own_index 0 (pos 1) (walker_at 316 0 0 0) ≡ accepted (1 ∷ [])
-  pub index : index_answer E (replicate (2 * entry_len) 0) ≡ accepted (2 ∷ [])
-  pub widen : widen_answer old_index (replicate (2 * entry_len) 0) ≡ accepted (2 ∷ [])
+  pub index : index_answer E (replicate 48 0) ≡ accepted (2 ∷ [])
   -- "place, lines"
   pub page : page_answer own_index (replicate 80 0) ≡ accepted (2 ∷ [])
   -- "place, frames, blocks" and "place, frames, blocks, samples, trailer, paired"

@@ -3,6 +3,7 @@ use mathlib.Core.Path.{◌≡◌, sym, ap}
 use mathlib.Core.Bool.{true, false}
 use mathlib.Core.List.{List}
 use Prim.Native.Nat.{ℕ, ◌*◌, ◌≤◌, ◌<◌}
+use borrow.Author.Tests.{le-leb, lt-leb}
 use lib.ListN.{length}
 use Rattle.error.specs.Answer.{Answer, accepted, refused, numbered, and_then}
 use Rattle.error.specs.declared.Refusal.{Refusal}
@@ -15,7 +16,6 @@ use Rattle.walk.specs.Walk.{file_walk}
 use Rattle.chunk_index.specs.Entry.{entry_len, table_bytes}
 use Rattle.chunk_index.specs.Index.{records, tags_known, index_of, build_of}
 use Rattle.chunk_index.specs.Steps.{count_records}
-use Rattle.chunk_index.proofs.Filled.{fills, no_room}
 
 -- a refusal of the count is one of the index
 refused_on : {A B : Type 0} (x : Answer Unit) (a : A) (b : B) {r : Refusal} → and_then x (λ _. accepted a) ≡ refused r
@@ -41,7 +41,7 @@ module _ (file table : List ℕ) (l : within_limit file ≡ true) where
     pub build_short : length table < entry_len * length (records start (file_walk file))
         → build_of file table ≡ record { answer = refused (numbered 40 0); table = table }
     unfolding build_of
-    build_short h = no_room table index-found h
+    build_short h = rw (index-found, lt-leb _ _ h)
 
     pub build_room : entry_len * length (records start (file_walk file)) ≤ length table
         → build_of file table
@@ -50,7 +50,7 @@ module _ (file table : List ℕ) (l : within_limit file ≡ true) where
           table = put table 0 (table_bytes (records start (file_walk file)));
         }
     unfolding build_of
-    build_room h = fills table index-found h
+    build_room h = rw (index-found, le-leb _ _ h)
 
 pub build_limit : (file table : List ℕ) → within_limit file ≡ false → build_of file table ≡ record { answer = refused (numbered 10 0); table = table }
 unfolding build_of index_of

@@ -1,7 +1,5 @@
 pub mod Folds
-pub mod Standing
 pub mod Entries
-pub mod Filled
 pub mod Counting
 pub mod Summing
 pub mod Writing

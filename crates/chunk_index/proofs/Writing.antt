@@ -14,7 +14,7 @@ use Rattle.walk.specs.Steps.{Walked, past_at}
 use Rattle.walk.specs.Walk.{walk, file_walk}
 use Rattle.walk.specs.declared.ChunkAt.{ChunkAt}
 use Rattle.walk.proofs.Walks.{Goes}
-use Rattle.chunk_index.specs.Entry.{entry_len, entry, entry_bytes, table_bytes, records_bytes}
+use Rattle.chunk_index.specs.Entry.{entry_len, entry, entry_bytes, table_bytes}
 use Rattle.chunk_index.specs.Steps.{Small, recorded_at}
 use Rattle.chunk_index.specs.Index.{records}
 use Rattle.chunk_index.specs.declared.entry.ChunkIndexEntry.{ChunkIndexEntry}
@@ -24,7 +24,7 @@ use Rattle.chunk_index.proofs.Folds.{records_on}
 -- a record can hold the position of a header within the limit
 pub walked_small : (p : Position) → Walked p → p.cursor + 8 ≤ file_limit → Small p
 walked_small p w l =
-    record { frames_small = omega (arith, w.chunks_le); blocks_small = omega (arith, w.chunks_le) }
+    record { cursor_small = omega arith; frames_small = omega (arith, w.chunks_le); blocks_small = omega (arith, w.chunks_le) }
 
 pub record Writing (file table₀ table : List ℕ) (p : Position) (to : ℕ) : Type 0 where
   pub walked : Walked p
@@ -34,7 +34,7 @@ pub record Writing (file table₀ table : List ℕ) (p : Position) (to : ℕ) : 
 
 module _ {file table₀ table : List ℕ} {p : Position} {to : ℕ} (w : Writing file table₀ table p to) where
   pub write-end : records p (walk file p.cursor) ≡ [] → table ≡ put table₀ 0 (table_bytes (records start (file_walk file)))
-  unfolding records_bytes
+  unfolding table_bytes
   write-end e =
       sym (put-nothing table to)
       ∙ ap (λ (l : List ChunkIndexEntry). put table to (table_bytes l)) (sym e)
@@ -46,7 +46,7 @@ module _ {file table₀ table : List ℕ} {p : Position} {to : ℕ} (w : Writing
 
     pub write_more : Walked (past_at file p c)
         → Writing file table₀ (put table to (entry_bytes (entry c.kind p))) (past_at file p c) (to + entry_len)
-    unfolding records_bytes
+    unfolding table_bytes
     write_more v =
         let e : ChunkIndexEntry = entry c.kind p in
         let q : Position = past_at file p c in

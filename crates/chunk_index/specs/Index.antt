@@ -42,26 +42,19 @@ tags_known at (chunk kind payload missing rest) =
 unfoldable pub index_of : List ℕ → Answer (List ChunkIndexEntry)
 index_of file = ask (within_limit file) 10 0 (and_then (tags_known prelude_len (file_walk file)) (λ _. accepted (records start (file_walk file))))
 
--- "Table holds all records? 40, place 0, after the walk."
-abbrev pub room_for : List ℕ → List ChunkIndexEntry → Answer (List ChunkIndexEntry)
-room_for table es = ask (leb (entry_len * length es) (length table)) 40 0 (accepted es)
-
 -- what the call answers, and the table as it leaves it
 pub record Built : Type 0 where
   pub answer : Answer ℕ
   pub table : List ℕ
 
--- "The answer is their count; bytes after them stay."
+-- "Table holds all records? 40, place 0, after the walk. .. The answer is their count; bytes after them stay."
 abbrev pub built_from : List ℕ → Answer (List ChunkIndexEntry) → Built
 built_from table (accepted es) = record { answer = accepted (length es); table = put table 0 (table_bytes es) }
 built_from table (refused r) = record { answer = refused r; table = table }
 
--- records put into a table that has room for them
-abbrev pub filled_with : List ℕ → Answer (List ChunkIndexEntry) → Built
-filled_with table found = built_from table (and_then found (room_for table))
-
 unfoldable pub build_of : List ℕ → List ℕ → Built
-build_of file table = filled_with table (index_of file)
+build_of file table =
+    built_from table (and_then (index_of file) (λ es. ask (leb (entry_len * length es) (length table)) 40 0 (accepted es)))
 
 abbrev pub said_index : IndexResult → Answer ℕ
 said_index (index.Ok n) = accepted n

@@ -22,8 +22,9 @@ recorded_by Sound size missing = leb (min 8 size + missing) size
 abbrev pub recorded_at : ChunkAt → Bool
 recorded_at c = recorded_by c.kind c.size c.missing
 
--- what the two 32-bit fields of a record can hold
+-- what the three 32-bit fields of a record can hold
 pub record Small (p : Position) : Type 0 where
+  pub cursor_small : p.cursor ≤ u32_max
   pub frames_small : p.frames.0 ≤ u32_max
   pub blocks_small : p.blocks.0 ≤ u32_max
 

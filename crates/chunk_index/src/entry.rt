@@ -15,7 +15,7 @@ pub struct ChunkIndexEntry {
 
 impl ChunkIndexEntry {
     // The bytes of a record.
-    pub const LEN: usize = 28;
+    pub const LEN: usize = 24;
 
     // The record at an offset of a table.
     pub fn read(table: &[u8], at: usize) -> ChunkIndexEntry
@@ -23,10 +23,10 @@ impl ChunkIndexEntry {
         ensures { result ≡ entry_at table.now at }
     {
         let tag = fields::read_u32_le(table, at);
-        let cursor = fields::read_u64_le(table, at + 4);
-        let frames = fields::read_u32_le(table, at + 12) as u64;
-        let blocks = fields::read_u32_le(table, at + 16) as u64;
-        let samples = fields::read_u64_le(table, at + 20);
+        let cursor = fields::read_u32_le(table, at + 4) as u64;
+        let frames = fields::read_u32_le(table, at + 8) as u64;
+        let blocks = fields::read_u32_le(table, at + 12) as u64;
+        let samples = fields::read_u64_le(table, at + 16);
         let position = Position {
             cursor,
             frames: FrameStamp(frames),
@@ -44,9 +44,9 @@ impl ChunkIndexEntry {
     {
         let position = self.position;
         fields::write_u32_le(table, at, self.tag);
-        fields::write_u64_le(table, at + 4, position.cursor);
-        fields::write_u32_le(table, at + 12, position.frames.0 as u32);
-        fields::write_u32_le(table, at + 16, position.blocks.0 as u32);
-        fields::write_u64_le(table, at + 20, position.samples.0);
+        fields::write_u32_le(table, at + 4, position.cursor as u32);
+        fields::write_u32_le(table, at + 8, position.frames.0 as u32);
+        fields::write_u32_le(table, at + 12, position.blocks.0 as u32);
+        fields::write_u64_le(table, at + 16, position.samples.0);
     }
 }

@@ -14,7 +14,7 @@ use Rattle.error.specs.declared.AmvError.TheVariants.{ChunkHeaderTooShort, Unkno
 use Rattle.error.specs.declared.AmvError.TheVariants.{NoSuchStream, BadRecord, AlreadyBegun, NotBegun, PayloadTooLong, PacketOfNoStream}
 use Rattle.error.specs.declared.AmvError.TheVariants.{NoRoom, AlreadyEnded, PreludeMissing, ChunkCut, AfterTrailer, VideoAtOddPosition}
 use Rattle.error.specs.declared.AmvError.TheVariants.{AudioAtEvenPosition, OtherAtPosition, OddChunkCount, SamplesTooWide, StepIndexTooLarge}
-use Rattle.error.specs.declared.AmvError.TheVariants.{NibblesMissing, SampleBufferTooShort, WrongRegisterBlock, UnknownCommand, OffsetTooWide}
+use Rattle.error.specs.declared.AmvError.TheVariants.{NibblesMissing, SampleBufferTooShort, WrongRegisterBlock, UnknownCommand}
 use Rattle.error.proofs.Answers.{both}
 
 between : (e : AmvError) → (leb 1 (refusal_of e).number && leb (refusal_of e).number 255) ≡ true
@@ -63,7 +63,6 @@ between NibblesMissing = refl
 between SampleBufferTooShort = refl
 between WrongRegisterBlock = refl
 between UnknownCommand = refl
-between (OffsetTooWide place) = refl
 
 pub never_zero : (e : AmvError) → (refusal_of e).number ≡ 0 → ⊥
 never_zero e z = omega (arith, leb-true 1 (refusal_of e).number (both (leb 1 (refusal_of e).number) _ (between e)).0)

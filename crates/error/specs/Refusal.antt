@@ -9,7 +9,7 @@ use Rattle.error.specs.declared.AmvError.TheVariants.{ChunkHeaderTooShort, Unkno
 use Rattle.error.specs.declared.AmvError.TheVariants.{NoSuchStream, BadRecord, AlreadyBegun, NotBegun, PayloadTooLong, PacketOfNoStream}
 use Rattle.error.specs.declared.AmvError.TheVariants.{NoRoom, AlreadyEnded, PreludeMissing, ChunkCut, AfterTrailer, VideoAtOddPosition}
 use Rattle.error.specs.declared.AmvError.TheVariants.{AudioAtEvenPosition, OtherAtPosition, OddChunkCount, SamplesTooWide, StepIndexTooLarge}
-use Rattle.error.specs.declared.AmvError.TheVariants.{NibblesMissing, SampleBufferTooShort, WrongRegisterBlock, UnknownCommand, OffsetTooWide}
+use Rattle.error.specs.declared.AmvError.TheVariants.{NibblesMissing, SampleBufferTooShort, WrongRegisterBlock, UnknownCommand}
 use Rattle.error.specs.declared.AmvResult.{AmvResult}
 use Rattle.error.specs.declared.AmvResult.TheVariants.{Ok, Err}
 
@@ -60,7 +60,6 @@ refusal_of NibblesMissing = numbered 72 4
 refusal_of SampleBufferTooShort = numbered 73 0
 refusal_of WrongRegisterBlock = numbered 74 0
 refusal_of UnknownCommand = numbered 75 0
-refusal_of (OffsetTooWide place) = numbered 76 place
 
 -- the result of a call that only checks
 abbrev pub said : AmvResult → Answer Unit

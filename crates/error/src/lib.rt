@@ -58,7 +58,6 @@ pub enum AmvError {
     SampleBufferTooShort,
     WrongRegisterBlock,
     UnknownCommand,
-    OffsetTooWide(u64),
 }
 
 // What a call answers that only checks: nothing to say, or a refusal.
@@ -227,7 +226,6 @@ impl AmvError {
                 number: 75,
                 place: 0,
             },
-            AmvError::OffsetTooWide(place) => Refusal { number: 76, place },
         }
     }
 

@@ -1,9 +1,9 @@
 -- The largest file. Assumes nothing.
 use Rattle.std.specs.Prelude.{ℕ, Bool, List, leb, length}
 
--- 02, M-108: "The file limit becomes 17,179,869,184 bytes wherever 01 asks it"
+-- 01: "A file has at most 4,294,967,295 bytes."
 abbrev pub file_limit : ℕ
-file_limit = 17179869184
+file_limit = 4294967295
 
 -- "File within the limit?"
 abbrev pub within_limit : List ℕ → Bool

@@ -1,19 +1,19 @@
 -- A line is read back: spaces add nothing, digits are worth the number, and each field stands in its columns. Assumes nothing.
 use mathlib.Core.Path.{◌≡◌, refl, sym, ap, ◌∙◌, subst}
-use mathlib.Core.Bool.{Bool, true, false}
+use mathlib.Core.Bool.{Bool, true, false, ◌||◌}
 use mathlib.Core.List.{List, [], ◌∷◌, ◌++◌, map, append_assoc}
-use mathlib.Core.Logic.{⊎_elim}
 use mathlib.Core.Option.{some}
 use Prim.Native.Nat.{ℕ, zero, suc, ◌+◌, ◌-◌, ◌*◌, ◌≤◌, ◌<◌}
 use native.Mathlib.Omega.{arith}
-use borrow.Author.Tests.{ne_eqb}
-use lib.Dec.{eqb}
+use borrow.Author.Tests.{ne_eqb, eqb-true}
+use lib.Dec.{eqb, ltb}
 use lib.ListN.{length, take, drop, get_or, length-append}
 use lib.Seq.{take_at, drop_at, drop-drop, take_all, get_or-drop}
-use Rattle.chunk.specs.Chunk.{video_tag}
+use Rattle.error.proofs.Answers.{both}
+use Rattle.chunk.specs.Chunk.{video_tag, audio_tag}
+use Rattle.demuxer.specs.Position.{count_limit}
 use Rattle.chunk_index.specs.declared.entry.ChunkIndexEntry.{ChunkIndexEntry}
 use Rattle.table.specs.Table.{good_entry}
-use Rattle.table.proofs.Sentences.{good_sentences}
 use Rattle.text.specs.Text.{digits, decimal, kind, spaces, right}
 use Rattle.text.proofs.Digits.{worth, Digits, digits-digits, decimal-worth, decimal_head, decimal-zero}
 use Rattle.text.proofs.Laws.{length-right}
@@ -99,7 +99,11 @@ right-blank width n h = go (width - length (decimal n)) (omega arith)
 
 -- the letter of a good record's kind
 tag_back : (e : ChunkIndexEntry) → good_entry e ≡ true → tag_in (kind (eqb e.tag video_tag)) ≡ some e.tag
-tag_back e g = ⊎_elim (λ p. rw p) (λ p. rw p) (good_sentences.passed e g).tag_known
+tag_back e g = go (eqb e.tag video_tag) refl (both (eqb e.tag video_tag || eqb e.tag audio_tag) (ltb e.position.samples.0 count_limit) g).0
+  where
+    go : (b : Bool) → eqb e.tag video_tag ≡ b → (b || eqb e.tag audio_tag) ≡ true → tag_in (kind b) ≡ some e.tag
+    go true t h = ap {A = ℕ} some (sym (eqb-true e.tag video_tag t))
+    go false t h = ap {A = ℕ} some (sym (eqb-true e.tag audio_tag h))
 
 -- four fields of 1, 10, 10 and 19 columns, by where they stand
 module _ (k a b c : List ℕ) (lk : length k ≡ 1) (la : length a ≡ 10) (lb : length b ≡ 10) (lc : length c ≡ 19) where
@@ -166,7 +170,7 @@ module _ (e : ChunkIndexEntry) (l : Lined e) where
       let t = ap tag_in (in_one letter offset frames samples (length-kind e) length-offset length-frames length-samples) ∙ tag_back e l.good in
       let o =
       ap (number_in 0) (in_eleven letter offset frames samples (length-kind e) length-offset length-frames length-samples)
-      ∙ number-right 10 e.position.cursor (omega (arith, l.fits.offset_narrow)) in
+      ∙ number-right 10 e.position.cursor (omega (arith, l.fits.small.cursor_small)) in
       let f =
       ap (number_in 0) (in_twenty_one letter offset frames samples (length-kind e) length-offset length-frames length-samples)
       ∙ number-right 10 e.position.frames.0 (omega (arith, l.fits.small.frames_small)) in
@@ -182,7 +186,7 @@ module _ (e : ChunkIndexEntry) (l : Lined e) where
         offset =
             subst (λ (cs : List ℕ). RightAligned cs e.position.cursor)
             (sym (in_eleven letter offset frames samples (length-kind e) length-offset length-frames length-samples))
-            (right-aligned 10 e.position.cursor (omega (arith, l.fits.offset_narrow)));
+            (right-aligned 10 e.position.cursor (omega (arith, l.fits.small.cursor_small)));
         frames =
             subst (λ (cs : List ℕ). RightAligned cs e.position.frames.0)
             (sym (in_twenty_one letter offset frames samples (length-kind e) length-offset length-frames length-samples))

@@ -3,32 +3,26 @@
 use mathlib.Core.Path.{◌≡◌, refl, sym, ap, ◌∙◌, subst}
 use mathlib.Core.Bool.{true, false}
 use mathlib.Core.List.{List, [], ◌∷◌, ◌++◌, map}
-use Prim.Native.Nat.{ℕ, zero, suc, ◌+◌, ◌*◌, ◌/◌, ◌≤◌, ◌<◌}
-use native.Mathlib.Decide.{dec_le}
+use Prim.Native.Nat.{ℕ, zero, suc, ◌+◌, ◌*◌, ◌/◌, ◌<◌}
 use native.Mathlib.Nat.{zero-add}
 use native.Mathlib.Omega.{arith}
 use lib.ListN.{length, take, drop}
 use lib.Seq.{drop_at}
-use Rattle.error.specs.Answer.{Answer, accepted, refused, numbered, and_then}
+use Rattle.error.specs.Answer.{Answer, accepted, refused, numbered, number_of, and_then}
 use Rattle.error.specs.Sentences.{one_of, RefusedBy}
 use Rattle.error.specs.declared.Refusal.{Refusal}
 use Rattle.error.proofs.Answers.{never, clash, accepted-same}
-use Rattle.error.proofs.Sentences.{then_by}
 use Rattle.fields.specs.Le.{Bytes, put}
 use Rattle.fields.proofs.Laws.{front_put}
-use Rattle.chunk_index.specs.Entry.{entry_len, entries_from, entries_of, records_from}
+use Rattle.chunk_index.specs.Entry.{entry_len, entries_from, entries_of}
 use Rattle.chunk_index.specs.declared.entry.ChunkIndexEntry.{ChunkIndexEntry}
-use Rattle.table.specs.Table.{ask_each, good_entry, table_questions}
+use Rattle.table.specs.Table.{good_entry}
 use Rattle.table.specs.Sentences.{AllPass, FirstNo, Good}
 use Rattle.table.proofs.Sentences.{each_by, table_by, good, each_sentences}
-use Rattle.text.specs.Text.{decimal}
-use Rattle.text.proofs.Digits.{decimal_fit, decimal-many}
-use Rattle.page.specs.Page.{columns, narrow_samples, farthest, narrow_offset, column_questions, page_line, page_lines, page_questions, printed_from, print_of}
+use Rattle.page.specs.Page.{narrow_samples, page_line, page_lines, page_questions, printed_from, print_of}
 use Rattle.page.specs.Reading.{read_line, lines_of}
 use Rattle.page.specs.Sentences.{Each, GoodLine, AllAligned, shown_of, PageSentences}
-use Rattle.page.specs.Steps.{narrow_line}
-use Rattle.page.specs.declared.Column.TheVariants.{Samples, Offset}
-use Rattle.page.proofs.Lines.{narrow_within, narrow-past, narrow-lines, columns-passed, entry-fits, Passed, page_cases, questions_passed}
+use Rattle.page.proofs.Lines.{narrow_below, narrow-above, entry-fits, Passed, page_cases, questions_passed}
 use Rattle.page.proofs.Reading.{Lined, length-lines, lines_back, all_read, all_aligned, all_good}
 
 -- ---- an accepted page
@@ -52,9 +46,9 @@ accept table page n = go (page_questions table (length page)) refl
         }
 
 -- each record of it has a line
-lined : (n : ℕ) (table : List ℕ) (at : ℕ) → Bytes table → AllPass good_entry (entries_from n table at) → AllPass narrow_line (entries_from n table at)
+lined : (n : ℕ) (table : List ℕ) (at : ℕ) → Bytes table → AllPass good_entry (entries_from n table at) → AllPass narrow_samples (entries_from n table at)
     → Each Lined (entries_from n table at)
-unfolding records_from
+unfolding entries_from
 lined zero table at b g w = tt
 lined (suc n) table at b g w =
     (record { fits = entry-fits table at b w.0; good = g.0 }, lined n table (at + entry_len) b g.1 w.1)
@@ -69,7 +63,7 @@ module _ (table page : List ℕ) (n : ℕ) (b : Bytes table) (h : (print_of tabl
   all_lined : Each Lined es
   all_lined =
       lined (length table / entry_len) table 0 b (good table a.passed.good).records
-      (narrow-lines es (columns-passed es a.passed.narrow))
+      (each_sentences.accepted_all narrow_samples 70 es a.passed.narrow)
 
   size : length (page_lines es) ≡ 40 * n
   size = omega (arith, length-lines es all_lined, a.lines)
@@ -126,36 +120,12 @@ tells_apart table page table' page' n n' b b' h h' e =
 
 -- ---- a refusal
 
-columns_by : (ns : List ℕ) → one_of ns 70 ≡ true → one_of ns 76 ≡ true → (es : List ChunkIndexEntry) → RefusedBy ns (column_questions es)
-columns_by ns a b es =
-    then_by ns (ask_each narrow_samples 70 0 es) (λ _. ask_each narrow_offset 76 0 es) (each_by ns narrow_samples 70 a 0 es)
-    (λ u. each_by ns narrow_offset 76 b 0 es)
-
--- which of the two says no, and what the other has let pass
-columns_70 : (es : List ChunkIndexEntry) (at : ℕ) → column_questions es ≡ refused (numbered 70 at) → FirstNo narrow_samples es at
-columns_70 es at = go (ask_each narrow_samples 70 0 es) refl
-  where
-    go : (x : Answer Unit) → ask_each narrow_samples 70 0 es ≡ x → and_then x (λ _. ask_each narrow_offset 76 0 es) ≡ refused (numbered 70 at)
-        → FirstNo narrow_samples es at
-    go (accepted u) e h = clash (subst (RefusedBy (76 ∷ [])) h (each_by (76 ∷ []) narrow_offset 76 refl 0 es)) refl
-    go (refused r) e h = (each_sentences.refused_first narrow_samples 70 es (numbered 70 at) (e ∙ h)).1
-
-columns_76 : (es : List ChunkIndexEntry) (at : ℕ) → column_questions es ≡ refused (numbered 76 at)
-    → AllPass narrow_samples es × FirstNo narrow_offset es at
-columns_76 es at = go (ask_each narrow_samples 70 0 es) refl
-  where
-    go : (x : Answer Unit) → ask_each narrow_samples 70 0 es ≡ x → and_then x (λ _. ask_each narrow_offset 76 0 es) ≡ refused (numbered 76 at)
-        → AllPass narrow_samples es × FirstNo narrow_offset es at
-    go (accepted u) e h =
-        (each_sentences.accepted_all narrow_samples 70 es e, (each_sentences.refused_first narrow_offset 76 es (numbered 76 at) h).1)
-    go (refused r) e h = clash (subst (RefusedBy (70 ∷ [])) (e ∙ h) (each_by (70 ∷ []) narrow_samples 70 refl 0 es)) refl
-
-asked : (table : List ℕ) (room : ℕ) → RefusedBy (41 ∷ 43 ∷ 70 ∷ 76 ∷ 40 ∷ []) (page_questions table room)
+asked : (table : List ℕ) (room : ℕ) → RefusedBy (41 ∷ 43 ∷ 70 ∷ 40 ∷ []) (page_questions table room)
 asked table room =
-    let ns : List ℕ = 41 ∷ 43 ∷ 70 ∷ 76 ∷ 40 ∷ [] in
+    let ns : List ℕ = 41 ∷ 43 ∷ 70 ∷ 40 ∷ [] in
     page_cases table room (RefusedBy ns)
     (λ r e. subst (RefusedBy ns) e (table_by ns refl refl table))
-    (λ r g e. subst (RefusedBy ns) e (columns_by ns refl refl (entries_of table)))
+    (λ r g e. subst (RefusedBy ns) e (each_by ns narrow_samples 70 refl 0 (entries_of table)))
     (λ g n e. refl)
     (λ p. tt)
 
@@ -168,11 +138,11 @@ module _ (table page : List ℕ) where
       go (accepted u) h = never h
       go (refused q) h = refl
 
-  numbers : RefusedBy (41 ∷ 43 ∷ 70 ∷ 76 ∷ 40 ∷ []) (print_of table page).answer
+  numbers : RefusedBy (41 ∷ 43 ∷ 70 ∷ 40 ∷ []) (print_of table page).answer
   unfolding print_of
   numbers = go (page_questions table (length page)) (asked table (length page))
     where
-      go : (q : Answer Unit) → RefusedBy (41 ∷ 43 ∷ 70 ∷ 76 ∷ 40 ∷ []) q → RefusedBy (41 ∷ 43 ∷ 70 ∷ 76 ∷ 40 ∷ []) (printed_from page (entries_of table) q).answer
+      go : (q : Answer Unit) → RefusedBy (41 ∷ 43 ∷ 70 ∷ 40 ∷ []) q → RefusedBy (41 ∷ 43 ∷ 70 ∷ 40 ∷ []) (printed_from page (entries_of table) q).answer
       go (accepted u) h = tt
       go (refused r) h = h
 
@@ -184,59 +154,32 @@ module _ (table page : List ℕ) where
       go (accepted u) h = never h
       go (refused q) h = ap {A = Answer ℕ} {B = Answer Unit} (λ a. and_then a (λ _. accepted tt)) h
 
-  -- how the questions came to a number that is neither 41 nor 43
-  module _ (m at : ℕ) (other : one_of (41 ∷ 43 ∷ []) m ≡ false) (P : Type 0) where
-    told : (table_questions table ≡ accepted tt → column_questions (entries_of table) ≡ refused (numbered m at) → P)
-        → (table_questions table ≡ accepted tt → column_questions (entries_of table) ≡ accepted tt → length page < columns * length (entries_of table)
-        → ◌≡◌ {A = Answer Unit} (refused (numbered 40 0)) (refused (numbered m at)) → P)
-        → (print_of table page).answer ≡ refused (numbered m at) → P
-    told wide short h =
-        page_cases table (length page) (λ (q : Answer Unit). q ≡ refused (numbered m at) → P)
-        (λ r e a. clash (subst (RefusedBy (41 ∷ 43 ∷ [])) (e ∙ a) (table_by (41 ∷ 43 ∷ []) refl refl table)) other)
-        (λ r g e a. wide g (e ∙ a))
-        (λ g n e a. short g n e a)
-        (λ p a. never a)
-        (questions_refused (numbered m at) h)
-
-  -- 40 is no other number
-  only_40 : (m at : ℕ) → one_of (40 ∷ []) m ≡ false → {B : Type 0} → ◌≡◌ {A = Answer Unit} (refused (numbered 40 0)) (refused (numbered m at)) → B
-  only_40 m at n e = clash (subst (RefusedBy (40 ∷ [])) e refl) n
+  -- a number that is none of some is no refusal's that they list
+  not_by : (ns : List ℕ) (q : Refusal) (m at : ℕ) → RefusedBy {A = Unit} ns (refused q) → ◌≡◌ {A = Answer Unit} (refused q) (refused (numbered m at))
+      → one_of ns m ≡ false → {B : Type 0} → B
+  not_by ns q m at h e f = clash (subst (λ (k : ℕ). one_of ns k ≡ true) (ap {A = Answer Unit} number_of e) h) f
 
   seventy : (at : ℕ) → (print_of table page).answer ≡ refused (numbered 70 at) → Good table × FirstNo narrow_samples (entries_of table) at
-  seventy at =
-      told 70 at refl _
-      (λ g e. (good table g, columns_70 (entries_of table) at e))
-      (λ g n l e. only_40 70 at refl e)
-
-  seventy_six : (at : ℕ) → (print_of table page).answer ≡ refused (numbered 76 at)
-      → Good table × AllPass narrow_samples (entries_of table) × FirstNo narrow_offset (entries_of table) at
-  seventy_six at =
-      told 76 at refl _
-      (λ g e. let w = columns_76 (entries_of table) at e in (good table g, w.0, w.1))
-      (λ g n l e. only_40 76 at refl e)
+  seventy at h =
+      page_cases table (length page)
+      (λ (q : Answer Unit). q ≡ refused (numbered 70 at) → Good table × FirstNo narrow_samples (entries_of table) at)
+      (λ r e a. not_by (41 ∷ 43 ∷ []) r 70 at (subst (RefusedBy (41 ∷ 43 ∷ [])) e (table_by (41 ∷ 43 ∷ []) refl refl table)) a refl)
+      (λ r g e a. (good table g, (each_sentences.refused_first narrow_samples 70 (entries_of table) (numbered 70 at) (e ∙ a)).1))
+      (λ g n e a. not_by (40 ∷ []) (numbered 40 0) 70 at refl a refl)
+      (λ p a. never a)
+      (questions_refused (numbered 70 at) h)
 
   forty : (at : ℕ) → (print_of table page).answer ≡ refused (numbered 40 at)
-      → Good table × AllPass narrow_samples (entries_of table) × AllPass narrow_offset (entries_of table) × (length page < 40 * length (entries_of table))
-  forty at =
-      told 40 at refl _
-      (λ g e. clash (subst (RefusedBy (70 ∷ 76 ∷ [])) e (columns_by (70 ∷ 76 ∷ []) refl refl (entries_of table))) refl)
-      (λ g n l e. let p = columns-passed (entries_of table) n in (good table g, p.0, p.1, l))
-
--- by its digits
-module _ (e : ChunkIndexEntry) (b : e.position.cursor < 18446744073709551616) where
-  far : 10 < length (decimal e.position.cursor) → narrow_offset e ≡ false
-  far h =
-      elim (dec_le e.position.cursor farthest) [
-        | yes l ↦ absurd (omega (arith, decimal_fit 9 e.position.cursor (omega arith)))
-        | no l ↦ narrow-past Offset e (omega arith) b
-      ]
-
-  near : length (decimal e.position.cursor) ≤ 10 → narrow_offset e ≡ true
-  near h =
-      elim (dec_le e.position.cursor farthest) [
-        | yes l ↦ narrow_within Offset e l
-        | no l ↦ absurd (omega (arith, decimal-many 10 e.position.cursor b (omega arith)))
-      ]
+      → Good table × AllPass narrow_samples (entries_of table) × (length page < 40 * length (entries_of table))
+  forty at h =
+      page_cases table (length page)
+      (λ (q : Answer Unit). q ≡ refused (numbered 40 at)
+      → Good table × AllPass narrow_samples (entries_of table) × (length page < 40 * length (entries_of table)))
+      (λ r e a. not_by (41 ∷ 43 ∷ []) r 40 at (subst (RefusedBy (41 ∷ 43 ∷ [])) e (table_by (41 ∷ 43 ∷ []) refl refl table)) a refl)
+      (λ r g e a. not_by (70 ∷ []) r 40 at (subst (RefusedBy (70 ∷ [])) e (each_by (70 ∷ []) narrow_samples 70 refl 0 (entries_of table))) a refl)
+      (λ g n e a. (good table g, each_sentences.accepted_all narrow_samples 70 (entries_of table) n, e))
+      (λ p a. never a)
+      (questions_refused (numbered 40 at) h)
 
 pub page_sentences : PageSentences
 page_sentences =
@@ -247,12 +190,9 @@ page_sentences =
       reads_back = reads_back;
       tells_apart = tells_apart;
       later = later;
-      wide = λ e h b. narrow-past Samples e (omega arith) b;
-      narrow = λ e h. narrow_within Samples e (omega arith);
-      far = λ e h b. far e b h;
-      near = λ e h b. near e b h;
+      wide = narrow-above;
+      narrow = narrow_below;
       seventy = seventy;
-      seventy_six = seventy_six;
       forty = forty;
       gives_back = λ table page. gives_back table page;
       numbers = numbers;

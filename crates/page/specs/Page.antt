@@ -1,4 +1,4 @@
--- The page: the records of an index as lines for a strip printer. Document 02, M-100 and M-108. Assumes nothing.
+-- The page: the records of an index as lines for a strip printer. Document 02, M-100. Assumes nothing.
 use Rattle.std.specs.Prelude.{ℕ, ◌*◌, Bool, List, [], ◌∷◌, ◌++◌, leb, eqb, length}
 use Rattle.error.specs.Answer.{Answer, accepted, refused, ask, and_then}
 use Rattle.error.specs.Refusal.{refusal_of}
@@ -31,23 +31,12 @@ page_lines (e ∷ es) = page_line e ++ page_lines es
 abbrev pub narrow_samples : ChunkIndexEntry → Bool
 narrow_samples e = leb (length (decimal e.position.samples.0)) 18
 
--- M-108: "76, place of the record, when the page meets an offset over 9,999,999,999"
-abbrev pub farthest : ℕ
-farthest = 9999999999
-
-abbrev pub narrow_offset : ChunkIndexEntry → Bool
-narrow_offset e = leb e.position.cursor farthest
-
--- 70: "place of the first such record"; 76: "once no record gives 70"
-abbrev pub column_questions : List ChunkIndexEntry → Answer Unit
-column_questions es = and_then (ask_each narrow_samples 70 0 es) (λ _. ask_each narrow_offset 76 0 es)
-
--- "after 41 and 43 over the whole table; 40 when the page buffer is too short, last"
+-- "place of the first such record, after 41 and 43 over the whole table; 40 when the page buffer is too short, last"
 unfoldable pub page_questions : List ℕ → ℕ → Answer Unit
 page_questions table room =
     and_then (table_questions table)
     (λ _.
-    and_then (column_questions (entries_of table))
+    and_then (ask_each narrow_samples 70 0 (entries_of table))
     (λ _. ask (leb (columns * length (entries_of table)) room) 40 0 (accepted tt)))
 
 -- what the call answers, and the page as it leaves it

@@ -7,8 +7,7 @@ use Rattle.fields.specs.Le.{Bytes}
 use Rattle.chunk_index.specs.Entry.{entries_of}
 use Rattle.chunk_index.specs.declared.entry.ChunkIndexEntry.{ChunkIndexEntry}
 use Rattle.table.specs.Sentences.{AllPass, FirstNo, Good}
-use Rattle.text.specs.Text.{decimal}
-use Rattle.page.specs.Page.{narrow_samples, narrow_offset, print_of}
+use Rattle.page.specs.Page.{narrow_samples, print_of}
 use Rattle.page.specs.Reading.{from_to, number_in, Shown, read_line, lines_of}
 
 -- each of some lines
@@ -78,20 +77,12 @@ pub record PageSentences : Type 0 where
   pub wide : (e : ChunkIndexEntry) → 1000000000000000000 ≤ e.position.samples.0 → e.position.samples.0 < 18446744073709551616
       → narrow_samples e ≡ false
   pub narrow : (e : ChunkIndexEntry) → e.position.samples.0 < 1000000000000000000 → narrow_samples e ≡ true
-  -- an offset has more than 10 digits, those of its columns, exactly from 10^10 on, and then it is over 9,999,999,999
-  pub far : (e : ChunkIndexEntry) → 10 < length (decimal e.position.cursor) → e.position.cursor < 18446744073709551616
-      → narrow_offset e ≡ false
-  pub near : (e : ChunkIndexEntry) → length (decimal e.position.cursor) ≤ 10 → e.position.cursor < 18446744073709551616
-      → narrow_offset e ≡ true
   -- "place of the first such record, after 41 and 43 over the whole table"
   pub seventy : (table page : List ℕ) (at : ℕ) → (print_of table page).answer ≡ refused (numbered 70 at)
       → Good table × FirstNo narrow_samples (entries_of table) at
-  -- M-108: "76, place of the record, .. once no record gives 70"
-  pub seventy_six : (table page : List ℕ) (at : ℕ) → (print_of table page).answer ≡ refused (numbered 76 at)
-      → Good table × AllPass narrow_samples (entries_of table) × FirstNo narrow_offset (entries_of table) at
   -- "40 when the page buffer is too short, last"
   pub forty : (table page : List ℕ) (at : ℕ) → (print_of table page).answer ≡ refused (numbered 40 at)
-      → Good table × AllPass narrow_samples (entries_of table) × AllPass narrow_offset (entries_of table) × (length page < 40 * length (entries_of table))
+      → Good table × AllPass narrow_samples (entries_of table) × (length page < 40 * length (entries_of table))
   -- "It returns the state it was given and changes no lent byte", and the numbers that 02 lists
   pub gives_back : (table : List ℕ) → GivesBack (λ page. (print_of table page).answer) (λ page. (print_of table page).page)
-  pub numbers : (table page : List ℕ) → RefusedBy (41 ∷ 43 ∷ 70 ∷ 76 ∷ 40 ∷ []) (print_of table page).answer
+  pub numbers : (table page : List ℕ) → RefusedBy (41 ∷ 43 ∷ 70 ∷ 40 ∷ []) (print_of table page).answer

@@ -209,21 +209,16 @@ read_at {p = p} (whole {kind = kind} {payload = payload} {rest = rest} h r later
     gives_one (shown_at p kind payload) (omega arith) (rw (drain-cons p kind payload (wholes_of rest))) r
 read_at (whole {kind = kind} {payload = payload} h r later) (suc k) l = one_on kind payload (read_at later k (le_of_suc-le-suc l))
 
--- a walk can stand at each position, so each is in range
-on_header : {p : Position} → Headed p → Stood p
-on_header h = record { walked = h.walked; within = let w = h.within in omega arith }
-
-pub stood : {file : List ℕ} {p : Position} {v : Walk} → ReadWalk file p v → (k : ℕ) → k ≤ length (wholes_of v) → Stood (position_at p k (wholes_of v))
-unfolding wholes_of position_at
-stood (stops h r) zero l = h
-stood (stops h r) (suc k) l = h
-stood (cut_short {missing = missing} h m r) zero l = on_header h
-stood (cut_short {missing = missing} h m r) (suc k) l = rw (ne_eqb missing 0 (λ e. omega arith)) (on_header h)
-stood (whole h r later) zero l = on_header h
-stood (whole h r later) (suc k) l = stood later k (le_of_suc-le-suc l)
-
+-- each position is in range
 pub ranged : {file : List ℕ} {p : Position} {v : Walk} → ReadWalk file p v → (k : ℕ) → k ≤ length (wholes_of v) → InRange (position_at p k (wholes_of v))
-ranged {p = p} {v = v} r k l = let s = stood r k l in walked_range (position_at p k (wholes_of v)) s.walked s.within
+unfolding wholes_of position_at
+ranged {p = p} (stops h r) zero l = walked_range p h.walked h.within
+ranged {p = p} (stops h r) (suc k) l = walked_range p h.walked h.within
+ranged {p = p} (cut_short {missing = missing} h m r) zero l = walked_range p h.walked (omega (arith, h.within))
+ranged {p = p} (cut_short {missing = missing} h m r) (suc k) l =
+    rw (ne_eqb missing 0 (λ e. omega arith)) (walked_range p h.walked (omega (arith, h.within)))
+ranged {p = p} (whole h r later) zero l = walked_range p h.walked (omega (arith, h.within))
+ranged (whole h r later) (suc k) l = ranged later k (le_of_suc-le-suc l)
 
 -- ---- reads until End
 

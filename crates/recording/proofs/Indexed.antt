@@ -35,7 +35,7 @@ use Rattle.chunk_index.specs.declared.entry.ChunkIndexEntry.{ChunkIndexEntry}
 use Rattle.table.specs.Table.{table_questions}
 use Rattle.seek.specs.Seek.{stamp_of, find, past_last, Seeking, landed, seek_of}
 use Rattle.seek.proofs.Seeks.{no_stream, all_pass, when_refused, when_accepted}
-use Rattle.chunk_index.proofs.Entries.{length-table, table_back}
+use Rattle.chunk_index.proofs.Entries.{length-table}
 use Rattle.recording.specs.Drain.{drain, drain_from}
 use Rattle.recording.specs.Machine.{Call, read, seek, ends, goes, MachineStep, on_read, on_seek, first, refuses, machine_step}
 use Rattle.recording.specs.Machine.{read_answer, seek_answer, CallOutcome, call, answers, after, Agrees, AllAgree, PacketsLeft, none_left}
@@ -44,9 +44,9 @@ use Rattle.recording.specs.Machine.{AtChunk, OwnIndex}
 use Rattle.recording.specs.Indexed.{wholes_of, recorded_of, stop_of, file_step, file_says, file_after, Marks, unmarked, marked_by, marks_after}
 use Rattle.recording.specs.Indexed.{cut_by, trailer_by, Marked, LeftAlong, AgreedAlong, FileAgreement}
 use Rattle.recording.proofs.Positions.{position_at, length-drain, counted}
-use Rattle.recording.proofs.Tables.{records_of}
+use Rattle.recording.proofs.Tables.{records_of, table_back}
 use Rattle.recording.proofs.Seeks.{Finds, hit, miss, finds}
-use Rattle.recording.proofs.Recorded.{one_more, least, most, same-position, records_are, record-position, all_met, all_fit, all_good, last-range, found-range}
+use Rattle.recording.proofs.Recorded.{one_more, least, most, same-position, records_are, record-position, all_met, all_fit, all_good, last-range}
 use Rattle.demuxer.proofs.Sentences.{read_sentences}
 use Rattle.recording.proofs.Drains.{standing, ended_by, ReadWalk, read_walk, ReadAt, gives_one, gives_none, read_at, ranged}
 
@@ -332,19 +332,6 @@ module _ (file : List ℕ) (fits : length file ≤ file_limit) (v : Walk) (r : R
         when_accepted table w stream request (all_pass table w stream s table_good (in_range_lem w.position range))
         ∙ ap (λ (es : List ChunkIndexEntry). landed es w stream (find stream request es)) entries_are
 
-    -- it is accepted, and leaves the walker in range
-    pub taken : (w : Walker) (stream : ℕ) (request : ℤ) → leb stream 1 ≡ true → InRange w.position
-        → (stamp : ℕ) × ((seek_of table w stream request).answer ≡ accepted stamp) × InRange (seek_of table w stream request).walker.position
-    taken w stream request s range = rw (seek_lands w stream request s range) (on _ refl)
-      where
-        es : List ChunkIndexEntry
-        es = records_of start (recorded_of v)
-
-        on : (f : Option Position) → find stream request es ≡ f
-            → (stamp : ℕ) × ((landed es w stream f).answer ≡ accepted stamp) × InRange (landed es w stream f).walker.position
-        on none e = (_, refl, last-range w.position es range (all_met r))
-        on (some p) e = (_, refl, found-range stream request es p (all_met r) e)
-
     seek_refused : (w : Walker) (stream : ℕ) (request : ℤ) → leb stream 1 ≡ false
         → seek_of table w stream request ≡ record { answer = refused (numbered 42 0); walker = w }
     seek_refused w stream request s = when_refused table w stream request (no_stream table w stream s)
@@ -467,17 +454,6 @@ module _ (file : List ℕ) (bytes : Bytes file) (table : List ℕ) (own : OwnInd
 
   pub lists : (calls : List Call) → FileAgreement file table calls
   lists calls = agreed file (indexed file own.indexed).fits (file_walk file) own-reads table own-table calls
-
-  pub own_taken : (w : Walker) (stream : ℕ) (request : ℤ) → InRange w.position → stream ≤ 1
-      → (stamp : ℕ) × ((seek_of table w stream request).answer ≡ accepted stamp) × InRange (seek_of table w stream request).walker.position
-  own_taken w stream request range s =
-      taken file (indexed file own.indexed).fits (file_walk file) own-reads table own-table w stream request (le-leb stream 1 s) range
-
-  pub own-in_range : (calls : List Call) → InRange (after file table fresh calls).position
-  own-in_range calls =
-      let i = indexed file own.indexed in
-      let ran = run file i.fits (file_walk file) own-reads table own-table fresh 0 unmarked calls (begins (file_walk file)) in
-      in_walk file i.fits (file_walk file) own-reads _ _ _ ran.holds
 
   -- the one-step lemma and what follows from the invariant, for what is built on them
   pub own_turn : (w : Walker) (k : ℕ) (m : Marks) (c : Call) → Invariant (file_walk file) w k m

@@ -17,4 +17,3 @@ pub mod CutJumps
 pub mod Runs
 pub mod ByValue
 pub mod Together
-pub mod Counters

@@ -1,5 +1,5 @@
 -- The chunks of a walk with a record, and their records: they are the whole chunks and perhaps one that is cut, each record stands where a header
--- does, so it fits its bytes, is good, and is in range. Assumes nothing.
+-- does, so it fits its 24 bytes, is good, and is in range. Assumes nothing.
 use mathlib.Core.Path.{◌≡◌, refl, sym, ap, ◌∙◌, subst}
 use mathlib.Core.Bool.{Bool, true, false, cond, ◌||◌}
 use mathlib.Core.List.{List, [], ◌∷◌}
@@ -9,7 +9,6 @@ use native.Mathlib.Nat.{le_of_suc-le-suc, not-suc-le-zero}
 use native.Mathlib.Omega.{arith}
 use borrow.Author.Tests.{ne_eqb}
 use lib.Dec.{eqb}
-use lib.IntN.{ℤ}
 use lib.ListN.{length, get_elem?}
 use Rattle.chunk.specs.Chunk.{video_tag, audio_tag}
 use Rattle.fields.proofs.Impossible.{impossible}
@@ -21,18 +20,16 @@ use Rattle.walk.specs.Walk.{kind_tag, ran_out, Walk, stop, chunk}
 use Rattle.walk.specs.declared.Kind.{Kind}
 use Rattle.walk.specs.declared.Kind.TheVariants.{Frame, Sound}
 use Rattle.walk.proofs.Chunked.{tag-held}
-use Rattle.walk.proofs.Walked.{walked_range}
-use Rattle.chunk_index.specs.Entry.{entry_len, offset_width, entry}
+use Rattle.chunk_index.specs.Entry.{entry_len, entry}
 use Rattle.chunk_index.specs.Index.{recorded, records}
 use Rattle.chunk_index.specs.declared.entry.ChunkIndexEntry.{ChunkIndexEntry}
-use Rattle.chunk_index.proofs.Entries.{AllFit}
 use Rattle.chunk_index.proofs.Writing.{walked_small}
 use Rattle.table.specs.Table.{ask_each, good_entry}
-use Rattle.table.proofs.Records.{known_tag, good_within}
-use Rattle.seek.specs.Seek.{reaches, find, beyond, past_last}
+use Rattle.table.proofs.Records.{known_tag, good_few}
+use Rattle.seek.specs.Seek.{beyond, past_last}
 use Rattle.recording.specs.Indexed.{wholes_of, recorded_of}
 use Rattle.recording.proofs.Positions.{passed, position_at}
-use Rattle.recording.proofs.Tables.{records_of, recorded-whole, past-whole}
+use Rattle.recording.proofs.Tables.{records_of, recorded-whole, past-whole, AllFit}
 use Rattle.recording.proofs.Drains.{Headed, ReadWalk, stops, cut_short, whole}
 
 -- ---- the chunks
@@ -146,14 +143,12 @@ all_met {p = p} (whole {kind = kind} {payload = payload} {rest = rest} h r later
 few-samples : (e : ChunkIndexEntry) → Met e → e.position.samples.0 < count_limit
 few-samples e h = omega (arith, h.headed.walked.samples_le, h.headed.within)
 
-pub all_fit : (es : List ChunkIndexEntry) → AllMet es → AllFit offset_width es
+pub all_fit : (es : List ChunkIndexEntry) → AllMet es → AllFit es
 all_fit [] h = tt
 all_fit (e ∷ es) (h, hs) = (
   record {
     tag_fits = subst (λ (tag : ℕ). tag < 256 ^ 4) (sym h.tag_is) (tag-held h.kind);
-    offset-fits = let l = h.headed.within in omega arith;
-    frames_fit = let s = walked_small e.position h.headed.walked h.headed.within in omega arith;
-    blocks_fit = let s = walked_small e.position h.headed.walked h.headed.within in omega arith;
+    small = walked_small e.position h.headed.walked h.headed.within;
     samples_fit = let f = few-samples e h in omega arith;
   },
   all_fit es hs,
@@ -168,8 +163,7 @@ unfolding ask_each
 all_good place [] h = refl
 all_good place (e ∷ es) (h, hs) =
     let known : known_tag e ≡ true = ap (λ (tag : ℕ). eqb tag video_tag || eqb tag audio_tag) h.tag_is ∙ known-met h.kind in
-    let l = h.headed.within in
-    rw (good_within e (few-samples e h) (omega arith) ∙ known) (all_good (place + entry_len) es hs)
+    rw (good_few e (few-samples e h) ∙ known) (all_good (place + entry_len) es hs)
 
 -- the position that a seek to the end leaves is in range
 counted_in : (t : Bool) (n : ℕ) → n < count_limit → cond t (n + 1) n ≤ count_limit
@@ -191,16 +185,3 @@ pub last-range : (p : Position) (es : List ChunkIndexEntry) → InRange p → Al
 unfolding past_last
 last-range p [] r h = r
 last-range p (e ∷ es) r (h, hs) = last-range (beyond e) es (beyond-range e h) hs
-
--- and so is the one to which a seek goes
-pub found-range : (stream : ℕ) (request : ℤ) (es : List ChunkIndexEntry) (p : Position) → AllMet es → find stream request es ≡ some p → InRange p
-unfolding find
-found-range stream request [] p h e = impossible cc
-found-range stream request (x ∷ es) p (h, hs) e = on (reaches stream request x) e (found-range stream request es p hs)
-  where
-    on : (t : Bool) → cond t (some x.position) (find stream request es) ≡ some p → (find stream request es ≡ some p → InRange p) → InRange p
-    on true e later =
-        let q : x.position ≡ p = cc in
-        let l = h.headed.within in
-        subst InRange q (walked_range x.position h.headed.walked (omega arith))
-    on false e later = later e

@@ -5,7 +5,6 @@ pub mod Drain
 pub mod Machine
 pub mod Check
 pub mod Indexed
-pub mod Counters
 pub mod Summary
 pub mod WriteLists
 pub mod Cut

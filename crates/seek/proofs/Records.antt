@@ -1,6 +1,6 @@
 -- The records of a table, one after another: a turn of the search, and that only the last record counts past the end. Assumes nothing.
-use mathlib.Core.Path.{◌≡◌, refl, sym, ap, ◌∙◌, subst}
-use mathlib.Core.Bool.{Bool, true, false}
+use mathlib.Core.Path.{◌≡◌, refl, sym, ap, ◌∙◌}
+use mathlib.Core.Bool.{true, false}
 use mathlib.Core.List.{List, [], ◌∷◌}
 use mathlib.Core.Option.{some}
 use Prim.Native.Nat.{ℕ, zero, suc, ◌+◌, ◌-◌, ◌*◌, ◌/◌, ◌≤◌}
@@ -10,13 +10,9 @@ use lib.ListN.{length}
 use lib.Signed.{le_z}
 use borrow.Author.Tests.{le-leb}
 use Rattle.demuxer.specs.declared.position.Position.{Position}
-use Rattle.chunk_index.specs.Entry.{entry_len, entry_at, entries_from, entries_of, records_from}
+use Rattle.chunk_index.specs.Entry.{entry_len, entry_at, entries_from, entries_of}
 use Rattle.chunk_index.specs.declared.entry.ChunkIndexEntry.{ChunkIndexEntry}
-use Rattle.fields.specs.File.{file_limit}
-use Rattle.table.specs.Sentences.{AllPass}
-use Rattle.table.specs.Table.{good_entry}
 use Rattle.table.proofs.Records.{entries_on}
-use Rattle.table.proofs.Sentences.{good_sentences}
 use Rattle.seek.specs.Seek.{stamp_of, reaches, find, beyond, past_last}
 use Rattle.seek.specs.Steps.{least}
 
@@ -32,7 +28,7 @@ module _ (table : List ℕ) (at left : ℕ) (h : entry_len ≤ left) {e : ChunkI
 
 -- past the last of some records: only that one counts
 pub past-last : (n : ℕ) (p : Position) (table : List ℕ) (at : ℕ) → past_last p (entries_from (suc n) table at) ≡ beyond (entry_at table (at + n * entry_len))
-unfolding past_last records_from
+unfolding past_last entries_from
 past-last zero p table at =
     let k : at + 0 * entry_len ≡ at = omega arith in
     rw k
@@ -47,27 +43,6 @@ past-records p table h =
     let k : length table / entry_len ≡ suc n = omega arith in
     let z : 0 + n * entry_len ≡ n * entry_len = omega arith in
     ap (λ (m : ℕ). past_last p (entries_from m table 0)) k ∙ past-last n p table 0 ∙ ap (λ (a : ℕ). beyond (entry_at table a)) z
-
--- and what a question lets pass of all of them, it does of that one
-last-passes : (test : ChunkIndexEntry → Bool) (n : ℕ) (table : List ℕ) (at : ℕ) → AllPass test (entries_from (suc n) table at)
-    → test (entry_at table (at + n * entry_len)) ≡ true
-unfolding records_from
-last-passes test zero table at h =
-    let k : at + 0 * entry_len ≡ at = omega arith in
-    rw k h.0
-last-passes test (suc n) table at h =
-    let k : at + suc n * entry_len ≡ at + entry_len + n * entry_len = omega arith in
-    rw k (last-passes test n table (at + entry_len) h.1)
-
-pub last_within : (table : List ℕ) → (length table / entry_len ≡ 0 → ⊥) → AllPass good_entry (entries_of table)
-    → (entry_at table ((length table / entry_len - 1) * entry_len)).position.cursor ≤ file_limit
-last_within table h good =
-    let n = length table / entry_len - 1 in
-    let k : length table / entry_len ≡ suc n = omega arith in
-    let z : 0 + n * entry_len ≡ n * entry_len = omega arith in
-    let p : good_entry (entry_at table (0 + n * entry_len)) ≡ true =
-    last-passes good_entry n table 0 (subst (λ (m : ℕ). AllPass good_entry (entries_from m table 0)) k good) in
-    subst (λ (a : ℕ). (entry_at table a).position.cursor ≤ file_limit) z (good_sentences.passed (entry_at table (0 + n * entry_len)) p).offset_within
 
 -- a request and the least stamp that reaches it find the same record
 reach_least : (z : ℤ) (n : ℕ) → le_z (pos (least z)) (pos n) ≡ le_z z (pos n)

@@ -6,21 +6,18 @@ use mathlib.Core.Option.{Option}
 use Prim.Native.Nat.{ℕ}
 use lib.Dec.{leb}
 use lib.IntN.{ℤ, pos}
-use Rattle.error.specs.Answer.{accepted, refused, numbered, ask}
+use Rattle.error.specs.Answer.{accepted, refused, numbered}
 use Rattle.error.specs.Refusal.{refusal_of, said}
 use Rattle.error.specs.declared.AmvError.{AmvError}
 use Rattle.error.specs.declared.AmvResult.{AmvResult}
 use Rattle.error.specs.declared.AmvResult.TheVariants.{Ok, Err}
 use Rattle.error.specs.declared.Refusal.{Refusal}
-use Rattle.error.proofs.Answers.{then-passed, ask-passed}
 use Rattle.chunk_index.specs.Entry.{entries_of}
 use Rattle.chunk_index.specs.declared.entry.ChunkIndexEntry.{ChunkIndexEntry}
 use Rattle.demuxer.specs.Position.{in_range}
 use Rattle.demuxer.specs.declared.position.Position.{Position}
 use Rattle.demuxer.specs.declared.walker.Walker.{Walker}
-use Rattle.table.specs.Sentences.{AllPass}
-use Rattle.table.specs.Table.{good_entry, table_questions}
-use Rattle.table.proofs.Sentences.{good}
+use Rattle.table.specs.Table.{table_questions}
 use Rattle.seek.specs.Seek.{seek_questions, find, past_last, moved_to, landed, seek_of}
 use Rattle.seek.specs.Steps.{least, found_of}
 use Rattle.seek.specs.declared.Found.{Found}
@@ -66,14 +63,6 @@ module _ (table : List ℕ) (w : Walker) (stream : ℕ) (z : ℤ) where
       → seek_of table w stream z ≡ landed (entries_of table) w stream (find stream z (entries_of table))
   unfolding seek_of
   when_accepted q = rw q
-
--- what questions that have been passed say of the table
-pub questions_good : (table : List ℕ) (w : Walker) (stream : ℕ) → seek_questions table w stream ≡ accepted tt → AllPass good_entry (entries_of table)
-unfolding seek_questions
-questions_good table w stream h =
-    let a = ask-passed (leb stream 1) 42 0 _ h in
-    let b = then-passed (table_questions table) (λ _. ask (in_range w.position) 32 0 (accepted tt)) a.1 in
-    (good table b.0).records
 
 -- by what the code was told
 module _ (table : List ℕ) (w : Walker) (stream : ℕ) (z : ℤ) {r : AmvResult} (asked : said r ≡ seek_questions table w stream) where

@@ -17,7 +17,7 @@ use Rattle.error.specs.Sentences.{RefusedBy}
 use Rattle.error.specs.declared.Refusal.{Refusal}
 use Rattle.error.proofs.Answers.{never, clash, accepted-same, both}
 use Rattle.error.proofs.Sentences.{asked_by, then_by}
-use Rattle.chunk_index.specs.Entry.{entry_len, entries_of}
+use Rattle.chunk_index.specs.Entry.{entries_of}
 use Rattle.chunk_index.specs.declared.entry.ChunkIndexEntry.{ChunkIndexEntry}
 use Rattle.demuxer.specs.Position.{in_range, InRange}
 use Rattle.demuxer.proofs.Ranges.{in_range_lem, range_facts}
@@ -181,10 +181,10 @@ module _ (table : List ℕ) (w : Walker) (stream : ℕ) (request : ℤ) where
   forty_two h = told (no_stream table w stream (lt-leb stream 1 h))
 
   module _ (known : stream ≤ 1) where
-    forty_one : (length table % entry_len ≡ 0 → ⊥) → (seek_of table w stream request).answer ≡ refused (numbered 41 0)
+    forty_one : (length table % 24 ≡ 0 → ⊥) → (seek_of table w stream request).answer ≡ refused (numbered 41 0)
     forty_one n = told (bad_table table w stream (le-leb stream 1 known) (ragged table n))
 
-    forty_three : (at : ℕ) → length table % entry_len ≡ 0 → FirstNo good_entry (entries_of table) at
+    forty_three : (at : ℕ) → length table % 24 ≡ 0 → FirstNo good_entry (entries_of table) at
         → (seek_of table w stream request).answer ≡ refused (numbered 43 at)
     forty_three at h f = told (bad_table table w stream (le-leb stream 1 known) (bad_record table h f))
 

@@ -3,7 +3,7 @@
 use Rattle.std.specs.Prelude.{◌≡◌, ℕ, ◌+◌, ◌%◌, ◌≤◌, ◌<◌, true, false, List, [], ◌∷◌, ◌++◌, ℤ, pos, length}
 use Rattle.std.specs.Int.Signed.{le_z}
 use Rattle.chunk.specs.Chunk.{video_tag, audio_tag, stream_tag}
-use Rattle.chunk_index.specs.Entry.{entry_len, entries_of}
+use Rattle.chunk_index.specs.Entry.{entries_of}
 use Rattle.chunk_index.specs.declared.entry.ChunkIndexEntry.{ChunkIndexEntry}
 use Rattle.demuxer.specs.Position.{InRange}
 use Rattle.demuxer.specs.declared.position.Position.{Position}
@@ -63,10 +63,10 @@ pub record SeekSentences : Type 0 where
   -- 02: "The stream question moves ahead": 42 whatever table and walker are
   pub forty_two : (table : List ℕ) (w : Walker) (stream : ℕ) (request : ℤ) → 1 < stream
       → (seek_of table w stream request).answer ≡ refused (numbered 42 0)
-  -- then the table's, whatever the walker is: "whole 24s? 41", by 02 28s; "43, place of the record's start"
-  pub forty_one : (table : List ℕ) (w : Walker) (stream : ℕ) (request : ℤ) → stream ≤ 1 → (length table % entry_len ≡ 0 → ⊥)
+  -- then the table's, whatever the walker is: "whole 24s? 41. .. 43, place of the record's start"
+  pub forty_one : (table : List ℕ) (w : Walker) (stream : ℕ) (request : ℤ) → stream ≤ 1 → (length table % 24 ≡ 0 → ⊥)
       → (seek_of table w stream request).answer ≡ refused (numbered 41 0)
-  pub forty_three : (table : List ℕ) (w : Walker) (stream : ℕ) (request : ℤ) (at : ℕ) → stream ≤ 1 → length table % entry_len ≡ 0
+  pub forty_three : (table : List ℕ) (w : Walker) (stream : ℕ) (request : ℤ) (at : ℕ) → stream ≤ 1 → length table % 24 ≡ 0
       → FirstNo good_entry (entries_of table) at → (seek_of table w stream request).answer ≡ refused (numbered 43 at)
   -- then the walker's: "State in range as above? 32"
   pub thirty_two : (table : List ℕ) (w : Walker) (stream : ℕ) (request : ℤ) → stream ≤ 1 → Good table → (InRange w.position → ⊥)

@@ -1,14 +1,14 @@
 -- What document 02, M-104, changes of the seek: "Wrong stream before wrong table." 01's order of the questions stands here beside it; no contract
 -- is about that order any more. Assumes nothing.
 use Rattle.std.specs.Prelude.{◌≡◌, ℕ, ◌%◌, ◌<◌, List, leb, ℤ, length}
-use Rattle.chunk_index.specs.Entry.{entry_len, entries_of}
+use Rattle.chunk_index.specs.Entry.{entries_of}
 use Rattle.demuxer.specs.Position.{in_range}
 use Rattle.demuxer.specs.declared.walker.Walker.{Walker}
 use Rattle.error.specs.Answer.{Answer, accepted, refused, numbered, ask, and_then}
 use Rattle.table.specs.Table.{whole_records, good_entries}
 use Rattle.seek.specs.Seek.{find, Seeking, landed, sought_from, seek_of}
 
--- 01: "whole 24s? 41" (by M-108 28s). "Stream 0 or 1? 42. Tags known and samples below 2^62? 43 .. State in range as above? 32"
+-- 01: "whole 24s? 41. Stream 0 or 1? 42. Tags known and samples below 2^62? 43 .. State in range as above? 32"
 unfoldable pub questions_before : List ℕ → Walker → ℕ → Answer Unit
 questions_before table w stream =
     and_then (whole_records table)
@@ -21,10 +21,10 @@ unfoldable pub seek_before : List ℕ → Walker → ℕ → ℤ → Seeking
 seek_before table w stream request =
     sought_from (questions_before table w stream) w (landed (entries_of table) w stream (find stream request (entries_of table)))
 
--- 02: "stream above 1 with a length not a multiple of 24", by M-108 of 28
+-- 02: "stream above 1 with a length not a multiple of 24"
 pub record BothWrong (table : List ℕ) (stream : ℕ) : Type 0 where
   pub no_stream : 1 < stream
-  pub ragged : length table % entry_len ≡ 0 → ⊥
+  pub ragged : length table % 24 ≡ 0 → ⊥
 
 -- for all tables, walkers, streams and requests
 pub record StreamFirst : Type 0 where

@@ -2,11 +2,8 @@
 ghost use Rattle.std.specs.Prelude.{◌≡◌, cond, ◌+◌, ◌≤◌, eqb, pos};
 ghost use Rattle.error.specs.Refusal.{said};
 ghost use Rattle.fields.specs.Capped.{u32_max};
-ghost use Rattle.fields.specs.File.{file_limit};
 ghost use Rattle.chunk_index.specs.Entry.{entries_of};
 ghost use Rattle.chunk_index.specs.Steps.{Small};
-ghost use Rattle.table.specs.Sentences.{AllPass};
-ghost use Rattle.table.specs.Table.{good_entry};
 ghost use Rattle.seek.specs.Seek.{seek_questions, stamp_of, reaches, find, beyond, past_last};
 ghost use Rattle.seek.specs.Seek.{moved_to, landed, said_seek_outcome, seek_of};
 ghost use Rattle.seek.specs.Steps.{least, found_of};
@@ -121,8 +118,7 @@ fn counted(count: u64, tag: u32, wanted: u32) -> u64
 
 // The position past a record: one more frame or block, the samples as they were.
 fn beyond_entry(e: ChunkIndexEntry) -> Position
-    requires small { Small e.position }
-    requires cursor_le_file_limit { e.position.cursor ≤ file_limit }
+    requires { Small e.position }
     ensures { result ≡ beyond e }
 {
     let position = e.position;
@@ -135,9 +131,8 @@ fn beyond_entry(e: ChunkIndexEntry) -> Position
     }
 }
 
-// Past the last record, which 43 has let pass, or the position itself where there is none.
+// Past the last record, or the position itself where there is none.
 fn beyond_last(position: Position, table: &[u8]) -> Position
-    requires { AllPass good_entry (entries_of table.now) }
     ensures { result ≡ past_last position (entries_of table.now) }
 {
     let count = table.len() / ChunkIndexEntry::LEN;
@@ -164,9 +159,8 @@ fn moved_to(walker: Walker, stream: u32, position: Position, end: bool) -> SeekO
     }
 }
 
-// Where the search leads, in a table of records that 43 has let pass.
+// Where the search leads.
 fn land(walker: Walker, table: &[u8], stream: u32, found: Found) -> SeekOutcome
-    requires { AllPass good_entry (entries_of table.now) }
     ensures { said_seek_outcome result ≡ landed (entries_of table.now) walker stream (found_of found) }
 {
     match found {
@@ -180,7 +174,7 @@ fn land(walker: Walker, table: &[u8], stream: u32, found: Found) -> SeekOutcome
 
 // Moves a walker to the first record of a stream whose stamp reaches a request, or past the last record with the end mark, without walking the
 // file. Refused in this order, with the walker as it was: a stream that is not 0 or 1 with 42, a table that is no whole number of records with
-// 41, a record of another tag, too many samples or an offset past the file limit with 43 at its start, a position out of range with 32.
+// 41, a record of another tag or too many samples with 43 at its start, a position out of range with 32.
 pub fn seek_to_via_index(walker: Walker, table: &[u8], stream: u32, request: i64) -> SeekOutcome
     ensures { said_seek_outcome result ≡ seek_of table.now walker stream request }
 {

@@ -196,6 +196,6 @@ nibbles-enough block n h =
     let c : length (drop 8 block) ≡ length block - 8 = length-drop 8 block in
     length-take n (nibbles (drop 8 block)) ∙ omega arith
 
-pub samples-many : (block : List ℕ) (room : ℕ) → Passed block room → length (samples_of block (preamble_in block)) ≡ count_in block
-samples-many block room p =
+pub samples_many : (block : List ℕ) (room : ℕ) → Passed block room → length (samples_of block (preamble_in block)) ≡ count_in block
+samples_many block room p =
     length_decoded (start_of (preamble_in block)) (take (count_in block) (nibbles (drop 8 block))) ∙ nibbles-enough block (count_in block) p.enough

@@ -22,7 +22,7 @@ use Rattle.sound.specs.Sound.{Decoder, Decoding, decode_nibble, decode_nibbles, 
 use Rattle.sound.specs.Sound.{nibbles, rise, samples_of, steps}
 use Rattle.sound.specs.Sentences.{Decodable, SoundSentences, after, count_in, entry, index_in, nibble_in, rise_at}
 use Rattle.sound.proofs.Rows.{index-lower, index_raise}
-use Rattle.sound.proofs.Blocks.{Passed, accept, block_cases, filled, gives_back, index_is, nibbles-enough, preamble_in, samples-many, start_is}
+use Rattle.sound.proofs.Blocks.{Passed, accept, block_cases, filled, gives_back, index_is, nibbles-enough, preamble_in, samples_many, start_is}
 
 -- ---- a nibble is the half of a byte
 
@@ -92,7 +92,7 @@ module _ (block : List ℕ) (buffer : List ℤ) (n : ℕ) (h : (decode_of block 
   sample : (k : ℕ) → Bytes block → k < n → entry (decode_of block buffer).samples k ≡ (after block (suc k)).level
   sample k b l =
       let many : length ns ≡ count_in block = nibbles-enough block (count_in block) passed.enough in
-      let all : length (samples_of block (preamble_in block)) ≡ count_in block = samples-many block (length buffer) passed in
+      let all : length (samples_of block (preamble_in block)) ≡ count_in block = samples_many block (length buffer) passed in
       let none : (i : ℕ) → i ≡ 0 + i = λ i. omega arith in
       ap (λ (xs : List ℤ). entry xs k) samples
       ∙ get_or-append (samples_of block (preamble_in block)) (drop (count_in block) buffer) (pos 0) k (omega (arith, count))
@@ -106,7 +106,7 @@ module _ (block : List ℕ) (buffer : List ℤ) (n : ℕ) (h : (decode_of block 
   later : drop n (decode_of block buffer).samples ≡ drop n buffer
   later =
       ap (drop n) samples
-      ∙ drop_at (samples_of block (preamble_in block)) (drop (count_in block) buffer) n (samples-many block (length buffer) passed ∙ sym count)
+      ∙ drop_at (samples_of block (preamble_in block)) (drop (count_in block) buffer) n (samples_many block (length buffer) passed ∙ sym count)
       ∙ ap (λ (m : ℕ). drop m buffer) (sym count)
 
 accepts : (block : List ℕ) (buffer : List ℤ) → Bytes block → Decodable block buffer → (decode_of block buffer).answer ≡ accepted (count_in block)
@@ -127,7 +127,7 @@ same_room block buffer =
     (λ h i c l. refl)
     (λ p.
     length-append (samples_of block (preamble_in block)) (drop (count_in block) buffer)
-    ∙ omega (arith, samples-many block (length buffer) p, length-drop (count_in block) buffer, p.fits))
+    ∙ omega (arith, samples_many block (length buffer) p, length-drop (count_in block) buffer, p.fits))
 
 -- ---- what is held
 

@@ -1,61 +1,61 @@
 -- The records of a table, one after another: what a turn of a loop takes off the bytes that are left, what a question of each becomes, and that
--- records whose numbers are small enough pass a question about them. Assumes nothing.
+-- records of few enough samples pass a question about them. Assumes nothing.
 use mathlib.Core.Path.{◌≡◌, refl, sym, ap, ◌∙◌}
 use mathlib.Core.Bool.{Bool, true, false, ◌||◌, and-false, and-true}
 use mathlib.Core.List.{List, [], ◌∷◌}
-use Prim.Native.Nat.{ℕ, suc, ◌+◌, ◌-◌, ◌/◌, ◌≤◌, ◌<◌, max}
+use Prim.Native.Nat.{ℕ, zero, suc, ◌+◌, ◌-◌, ◌/◌, ◌≤◌, ◌<◌, max}
 use native.Mathlib.Omega.{arith}
-use borrow.Author.Tests.{le-leb, lt-leb, lt-ltb, le-ltb}
-use lib.Dec.{ltb, eqb}
+use borrow.Author.Tests.{lt-ltb, le-ltb}
+use lib.Dec.{eqb}
 use lib.ListN.{length}
-use Rattle.fields.specs.File.{file_limit}
 use Rattle.fields.specs.Le.{Bytes}
+use Rattle.fields.proofs.Laws.{le-lt}
 use Rattle.error.specs.Answer.{Answer, accepted, refused, numbered, and_then}
 use Rattle.error.specs.Refusal.{refusal_of}
 use Rattle.error.specs.declared.AmvError.{AmvError}
 use Rattle.error.specs.declared.Refusal.{Refusal}
-use Rattle.error.proofs.Answers.{never, accepted-same, then-passed}
+use Rattle.error.proofs.Answers.{never, accepted-same, then-passed, ask-passed}
 use Rattle.chunk.specs.Chunk.{video_tag, audio_tag}
 use Rattle.demuxer.specs.Position.{count_limit}
-use Rattle.chunk_index.specs.Entry.{entry_len, offset_width, entry_at, entries_from, entries_of, records_from}
+use Rattle.chunk_index.specs.Entry.{entry_len, entry_at, entries_from, entries_of}
 use Rattle.chunk_index.specs.Steps.{Small}
-use Rattle.chunk_index.proofs.Entries.{record-small, length_from}
 use Rattle.chunk_index.specs.declared.entry.ChunkIndexEntry.{ChunkIndexEntry}
 use Rattle.table.specs.Table.{ask_each, whole_records, good_entry, good_entries, table_questions}
-use Rattle.table.specs.Steps.{largest, samples_of, offset_of, most_from, pass_over, said_table}
-use Rattle.table.specs.declared.Most.{Most}
+use Rattle.table.specs.Steps.{most_samples, pass_over, said_table}
 use Rattle.table.specs.declared.TableResult.{TableResult}
 use Rattle.table.specs.declared.TableResult.TheVariants.{Ok, Err}
 
 abbrev pub known_tag : ChunkIndexEntry → Bool
 known_tag e = eqb e.tag video_tag || eqb e.tag audio_tag
 
--- with too many samples, or too far, no tag helps; else the tags alone decide
+-- with too many samples no tag helps; with few enough the tags alone decide
 pub good_many : (e : ChunkIndexEntry) → count_limit ≤ e.position.samples.0 → good_entry e ≡ false
 good_many e h = rw (le-ltb e.position.samples.0 count_limit h) (and-false (known_tag e))
 
-pub good_far : (e : ChunkIndexEntry) → file_limit < e.position.cursor → good_entry e ≡ false
-good_far e h =
-    rw (lt-leb e.position.cursor file_limit h, and-false (ltb e.position.samples.0 count_limit)) (and-false (known_tag e))
+pub good_few : (e : ChunkIndexEntry) → e.position.samples.0 < count_limit → good_entry e ≡ known_tag e
+good_few e h = rw (lt-ltb e.position.samples.0 count_limit h) (and-true (known_tag e))
 
-pub good_within : (e : ChunkIndexEntry) → e.position.samples.0 < count_limit → e.position.cursor ≤ file_limit → good_entry e ≡ known_tag e
-good_within e h l = rw (lt-ltb e.position.samples.0 count_limit h, le-leb e.position.cursor file_limit l) (and-true (known_tag e))
-
--- the two 32-bit fields of a record
+-- the three 32-bit fields of a record
 pub entry-small : (table : List ℕ) (at : ℕ) → Bytes table → Small (entry_at table at).position
-entry-small table at b = record-small offset_width table at b
+unfolding entry_at
+entry-small table at b =
+    record {
+      cursor_small = omega (arith, le-lt 4 table (at + 4) b);
+      frames_small = omega (arith, le-lt 4 table (at + 8) b);
+      blocks_small = omega (arith, le-lt 4 table (at + 12) b);
+    }
 
 module _ (table : List ℕ) (at left : ℕ) where
   -- the records of the bytes that are left, from an offset on
   pub entries_on : entry_len ≤ left
       → entries_from (left / entry_len) table at ≡ entry_at table at ∷ entries_from ((left - entry_len) / entry_len) table (at + entry_len)
-  unfolding records_from
+  unfolding entries_from
   entries_on h =
       let k : left / entry_len ≡ suc ((left - entry_len) / entry_len) = omega arith in
       rw k
 
   pub entries_off : left < entry_len → entries_from (left / entry_len) table at ≡ []
-  unfolding records_from
+  unfolding entries_from
   entries_off h =
       let k : left / entry_len ≡ 0 = omega arith in
       rw k
@@ -72,56 +72,62 @@ module _ (table : List ℕ) (at left : ℕ) where
       unfolding ask_each
       each-no g = rw (entries_on h, ap test (sym read) ∙ g)
 
-    -- a turn of the pass that keeps the largest numbers
-    pub pass_on : (samples offset : ℕ) → good_entry e ≡ true
-        → pass_over at samples offset (entries_from (left / entry_len) table at)
-        ≡ pass_over (at + entry_len) (max samples (samples_of e)) (max offset (offset_of e))
-        (entries_from ((left - entry_len) / entry_len) table (at + entry_len))
-    unfolding ask_each largest
-    pass_on samples offset g = rw (entries_on h, ap good_entry (sym read) ∙ g, read)
+      -- and the other way: what has been accepted
+      pub each-passed : ask_each test number at (entries_from (left / entry_len) table at) ≡ accepted tt
+          → (test e ≡ true) × (ask_each test number (at + entry_len) (entries_from ((left - entry_len) / entry_len) table (at + entry_len)) ≡ accepted tt)
+      unfolding ask_each
+      each-passed a =
+          rw (read) (ask-passed (test (entry_at table at)) number at _ (rw (entries_on h) at a))
 
-    pub pass_no : (samples offset : ℕ) → good_entry e ≡ false
-        → pass_over at samples offset (entries_from (left / entry_len) table at) ≡ refused (numbered 43 at)
-    pass_no samples offset g = rw (each-no good_entry 43 g)
+    -- a turn of the pass that keeps the most samples
+    pub pass_on : (most : ℕ) → good_entry e ≡ true
+        → pass_over at most (entries_from (left / entry_len) table at)
+        ≡ pass_over (at + entry_len) (max most e.position.samples.0) (entries_from ((left - entry_len) / entry_len) table (at + entry_len))
+    unfolding ask_each most_samples
+    pass_on most g = rw (entries_on h, ap good_entry (sym read) ∙ g, read)
+
+    pub pass_no : (most : ℕ) → good_entry e ≡ false → pass_over at most (entries_from (left / entry_len) table at) ≡ refused (numbered 43 at)
+    pass_no most g = rw (each-no good_entry 43 g)
 
 pub length-entries : (n : ℕ) (table : List ℕ) (at : ℕ) → length (entries_from n table at) ≡ n
-length-entries n table at = length_from offset_width n table at
+unfolding entries_from
+length-entries zero table at = refl
+length-entries (suc n) table at = ap suc (length-entries n table (at + entry_len))
 
--- ---- numbers that are small enough
+-- ---- few enough samples
 
-module _ (number : ChunkIndexEntry → ℕ) where
-  largest-least : (most : ℕ) (es : List ChunkIndexEntry) → most ≤ largest number most es
-  unfolding largest
-  largest-least most [] = omega arith
-  largest-least most (e ∷ es) = omega (arith, largest-least (max most (number e)) es)
+most-least : (most : ℕ) (es : List ChunkIndexEntry) → most ≤ most_samples most es
+unfolding most_samples
+most-least most [] = omega arith
+most-least most (e ∷ es) = omega (arith, most-least (max most e.position.samples.0) es)
 
-  -- where the largest is within a limit, a question that all numbers within it pass is passed by each record
-  pub each_within : (limit : ℕ) (test : ChunkIndexEntry → Bool) → ((e : ChunkIndexEntry) → number e ≤ limit → test e ≡ true)
-      → (for place most : ℕ) (es : List ChunkIndexEntry) → largest number most es ≤ limit → ask_each test for place es ≡ accepted tt
-  unfolding ask_each largest
-  each_within limit test t for place most [] h = refl
-  each_within limit test t for place most (e ∷ es) h =
-      rw (t e (omega (arith, largest-least (max most (number e)) es)))
-      (each_within limit test t for (place + entry_len) (max most (number e)) es h)
+-- where the most samples are below a limit, a question that all counts below it pass is passed by each record
+pub each_below : (limit : ℕ) (test : ChunkIndexEntry → Bool) → ((e : ChunkIndexEntry) → e.position.samples.0 < limit → test e ≡ true)
+    → (number place most : ℕ) (es : List ChunkIndexEntry) → most_samples most es < limit → ask_each test number place es ≡ accepted tt
+unfolding ask_each most_samples
+each_below limit test t number place most [] h = refl
+each_below limit test t number place most (e ∷ es) h =
+    rw (t e (omega (arith, most-least (max most e.position.samples.0) es)))
+    (each_below limit test t number (place + entry_len) (max most e.position.samples.0) es h)
 
 -- ---- what the pass says of the questions
 
-asked : Answer Most → Answer Unit
-asked (accepted m) = accepted tt
+asked : Answer ℕ → Answer Unit
+asked (accepted n) = accepted tt
 asked (refused r) = refused r
 
-module _ (table : List ℕ) {r : TableResult} (s : said_table r ≡ and_then (whole_records table) (λ _. pass_over 0 0 0 (entries_of table))) where
-  pub table_ok : {m : Most} → r ≡ Ok m → (table_questions table ≡ accepted tt) × (m ≡ most_from 0 0 (entries_of table))
+module _ (table : List ℕ) {r : TableResult} (s : said_table r ≡ and_then (whole_records table) (λ _. pass_over 0 0 (entries_of table))) where
+  pub table_ok : {n : ℕ} → r ≡ Ok n → (table_questions table ≡ accepted tt) × (n ≡ most_samples 0 (entries_of table))
   table_ok e =
-      let whole = then-passed (whole_records table) (λ _. pass_over 0 0 0 (entries_of table)) (sym s ∙ ap said_table e) in
-      let good = then-passed (good_entries (entries_of table)) (λ _. accepted (most_from 0 0 (entries_of table))) whole.1 in
+      let whole = then-passed (whole_records table) (λ _. pass_over 0 0 (entries_of table)) (sym s ∙ ap said_table e) in
+      let good = then-passed (good_entries (entries_of table)) (λ _. accepted (most_samples 0 (entries_of table))) whole.1 in
       (rw (whole.0, good.0), sym (accepted-same good.1))
 
   pub table_err : {f : AmvError} → r ≡ Err f → table_questions table ≡ refused (refusal_of f)
   unfolding asked
   table_err {f} e = go (refusal_of f) (whole_records table) (good_entries (entries_of table)) (sym s ∙ ap said_table e)
     where
-      go : (q : Refusal) (x y : Answer Unit) → and_then x (λ _. and_then y (λ _. accepted (most_from 0 0 (entries_of table)))) ≡ refused q
+      go : (q : Refusal) (x y : Answer Unit) → and_then x (λ _. and_then y (λ _. accepted (most_samples 0 (entries_of table)))) ≡ refused q
           → and_then x (λ _. y) ≡ refused q
       go q (accepted u) (accepted v) h = never h
       go q (accepted u) (refused r) h = ap asked h

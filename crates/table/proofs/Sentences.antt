@@ -1,26 +1,21 @@
 -- The questions over a table: where the first no stands, by induction over the records, and its number. Assumes nothing.
 use mathlib.Core.Path.{◌≡◌, refl, sym, ap, ◌∙◌, subst}
 use Prim.Native.Nat.{ℕ, ◌+◌, ◌*◌, ◌%◌}
-use mathlib.Core.Bool.{Bool, true, false, ◌||◌}
+use mathlib.Core.Bool.{Bool, true, false}
 use mathlib.Core.List.{List, [], ◌∷◌, ◌++◌}
-use mathlib.Core.Logic.{◌⊎◌, inl, inr, ⊎_elim}
 use native.Mathlib.Omega.{arith}
-use borrow.Author.Tests.{eq-eqb, eqb-true, ne_eqb, leb-true, ltb-true}
-use lib.Dec.{leb, ltb, eqb}
+use borrow.Author.Tests.{eq-eqb, eqb-true, ne_eqb}
+use lib.Dec.{eqb}
 use lib.ListN.{length}
-use Rattle.chunk.specs.Chunk.{video_tag, audio_tag}
-use Rattle.demuxer.specs.Position.{count_limit}
-use Rattle.fields.specs.File.{file_limit}
 use Rattle.error.specs.Answer.{Answer, accepted, refused, numbered, number_of, place_of, ask}
 use Rattle.error.specs.declared.Refusal.{Refusal}
-use Rattle.error.proofs.Answers.{never, clash, both, then-passed, ask-passed}
+use Rattle.error.proofs.Answers.{never, then-passed, ask-passed}
 use Rattle.error.specs.Sentences.{one_of, RefusedBy}
 use Rattle.error.proofs.Sentences.{asked_by, then_by}
 use Rattle.chunk_index.specs.Entry.{entry_len, entries_of}
 use Rattle.chunk_index.specs.declared.entry.ChunkIndexEntry.{ChunkIndexEntry}
 use Rattle.table.specs.Table.{ask_each, whole_records, good_entry, good_entries, table_questions}
-use Rattle.table.specs.Sentences.{AllPass, FirstNo, GoodSentences, Good, EachSentences}
-use Rattle.table.proofs.Records.{known_tag, good_within}
+use Rattle.table.specs.Sentences.{AllPass, FirstNo, Good, EachSentences}
 
 module _ (numbers : List ℕ) where
   whole_by : one_of numbers 41 ≡ true → (table : List ℕ) → RefusedBy numbers (whole_records table)
@@ -87,18 +82,18 @@ module _ (test : ChunkIndexEntry → Bool) (number : ℕ) where
 
   -- and where one stands, it is the answer
   no-from : (place : ℕ) (before : List ChunkIndexEntry) (e : ChunkIndexEntry) (later : List ChunkIndexEntry) → AllPass test before → test e ≡ false
-      → ask_each test number place (before ++ (e ∷ later)) ≡ refused (numbered number (place + entry_len * length before))
+      → ask_each test number place (before ++ (e ∷ later)) ≡ refused (numbered number (place + 24 * length before))
   unfolding ask_each
   no-from place [] e later p n =
-      let z : place ≡ place + entry_len * 0 = omega arith in
+      let z : place ≡ place + 24 * 0 = omega arith in
       rw n (ap (λ (at : ℕ). refused (numbered number at)) z)
   no-from place (x ∷ before) e later p n =
-      let z : place + entry_len + entry_len * length before ≡ place + entry_len * length (x ∷ before) = omega arith in
+      let z : place + entry_len + 24 * length before ≡ place + 24 * length (x ∷ before) = omega arith in
       rw p.0 (no-from (place + entry_len) before e later p.1 n ∙ ap (λ (at : ℕ). refused (numbered number at)) z)
 
   no-first : (es : List ChunkIndexEntry) (at : ℕ) → FirstNo test es at → ask_each test number 0 es ≡ refused (numbered number at)
   no-first es at f =
-      let z : 0 + entry_len * length f.before ≡ at = omega (arith, f.there) in
+      let z : 0 + 24 * length f.before ≡ at = omega (arith, f.there) in
       ap (ask_each test number 0) f.is ∙ no-from 0 f.before f.first f.later f.passed f.no
       ∙ ap (λ (n : ℕ). refused (numbered number n)) z
 
@@ -123,30 +118,6 @@ each_sentences =
       all_accepted = λ test number. pass_all test number 0;
     }
 
--- ---- a record that 43 lets pass
-
-known : (t : ℕ) (a b : Bool) → eqb t video_tag ≡ a → eqb t audio_tag ≡ b → (a || b) ≡ true → (t ≡ video_tag) ⊎ (t ≡ audio_tag)
-known t true b p q h = inl (eqb-true t video_tag p)
-known t false true p q h = inr (eqb-true t audio_tag q)
-known t false false p q h = clash h refl
-
-tag-passes : (e : ChunkIndexEntry) → (e.tag ≡ video_tag) ⊎ (e.tag ≡ audio_tag) → known_tag e ≡ true
-tag-passes e = ⊎_elim (λ p. rw p) (λ p. rw p)
-
-pub good_sentences : GoodSentences
-good_sentences =
-    record {
-      lets_pass = λ e g. good_within e (omega (arith, g.samples_below)) g.offset_within ∙ tag-passes e g.tag_known;
-      passed = λ e h.
-          let p = both (known_tag e) _ h in
-          let q = both (ltb e.position.samples.0 count_limit) (leb e.position.cursor file_limit) p.1 in
-          record {
-            tag_known = known e.tag _ _ refl refl p.0;
-            samples_below = ltb-true _ _ q.0;
-            offset_within = leb-true _ _ q.1;
-          };
-    }
-
 -- ---- a table that 41 and 43 let pass
 
 module _ (table : List ℕ) where
@@ -162,8 +133,8 @@ module _ (table : List ℕ) where
   good_back g = rw (eq-eqb (length table % entry_len) 0 g.whole, each_sentences.all_accepted good_entry 43 (entries_of table) g.records)
 
   -- and what they do not
-  pub ragged : (length table % entry_len ≡ 0 → ⊥) → table_questions table ≡ refused (numbered 41 0)
+  pub ragged : (length table % 24 ≡ 0 → ⊥) → table_questions table ≡ refused (numbered 41 0)
   ragged n = rw (ne_eqb (length table % entry_len) 0 n)
 
-  pub bad_record : {at : ℕ} → length table % entry_len ≡ 0 → FirstNo good_entry (entries_of table) at → table_questions table ≡ refused (numbered 43 at)
+  pub bad_record : {at : ℕ} → length table % 24 ≡ 0 → FirstNo good_entry (entries_of table) at → table_questions table ≡ refused (numbered 43 at)
   bad_record {at} h f = rw (eq-eqb (length table % entry_len) 0 h, each_sentences.first_refused good_entry 43 (entries_of table) at f)

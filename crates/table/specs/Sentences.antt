@@ -1,10 +1,8 @@
 -- What is said of the questions over a table, a second time: by where the records stand. Assumes nothing.
-use Rattle.std.specs.Prelude.{◌≡◌, ℕ, ◌*◌, ◌%◌, ◌^◌, ◌≤◌, ◌<◌, Bool, true, false, List, [], ◌∷◌, ◌++◌, ◌⊎◌, length}
-use Rattle.chunk.specs.Chunk.{video_tag, audio_tag}
+use Rattle.std.specs.Prelude.{◌≡◌, ℕ, ◌*◌, ◌%◌, Bool, true, false, List, [], ◌∷◌, ◌++◌, length}
 use Rattle.error.specs.Answer.{accepted, refused, numbered}
 use Rattle.error.specs.declared.Refusal.{Refusal}
-use Rattle.fields.specs.File.{file_limit}
-use Rattle.chunk_index.specs.Entry.{entry_len, entries_of}
+use Rattle.chunk_index.specs.Entry.{entries_of}
 use Rattle.chunk_index.specs.declared.entry.ChunkIndexEntry.{ChunkIndexEntry}
 use Rattle.table.specs.Table.{ask_each, good_entry}
 
@@ -13,7 +11,7 @@ abbrev pub AllPass : (ChunkIndexEntry → Bool) → List ChunkIndexEntry → Typ
 AllPass test [] = Unit
 AllPass test (e ∷ es) = (test e ≡ true) × AllPass test es
 
--- the first record that does not pass, and the offset of its bytes
+-- the first record that does not pass, and the offset of its 24 bytes
 pub record FirstNo (test : ChunkIndexEntry → Bool) (es : List ChunkIndexEntry) (at : ℕ) : Type 0 where
   pub before : List ChunkIndexEntry
   pub first : ChunkIndexEntry
@@ -21,22 +19,11 @@ pub record FirstNo (test : ChunkIndexEntry → Bool) (es : List ChunkIndexEntry)
   pub is : es ≡ before ++ (first ∷ later)
   pub passed : AllPass test before
   pub no : test first ≡ false
-  pub there : at ≡ entry_len * length before
-
--- what 43 asks of a record: "Tags known and samples below 2^62", and an offset that is not "above the limit"
-pub record GoodRecord (e : ChunkIndexEntry) : Type 0 where
-  pub tag_known : (e.tag ≡ video_tag) ⊎ (e.tag ≡ audio_tag)
-  pub samples_below : e.position.samples.0 < 2 ^ 62
-  pub offset_within : e.position.cursor ≤ file_limit
-
--- and it lets pass these records and no others
-pub record GoodSentences : Type 0 where
-  pub lets_pass : (e : ChunkIndexEntry) → GoodRecord e → good_entry e ≡ true
-  pub passed : (e : ChunkIndexEntry) → good_entry e ≡ true → GoodRecord e
+  pub there : at ≡ 24 * length before
 
 -- 41 and 43 have been answered with yes, the second of every record
 pub record Good (table : List ℕ) : Type 0 where
-  pub whole : length table % entry_len ≡ 0
+  pub whole : length table % 24 ≡ 0
   pub records : AllPass good_entry (entries_of table)
 
 pub record EachSentences : Type 0 where

@@ -8,19 +8,11 @@ ghost use Rattle.table.specs.Steps.{pass_over, said_table};
 
 use chunk_index::entry::ChunkIndexEntry;
 use error::{AmvError, AmvResult};
-use fields::file::FILE_LIMIT;
 
-// The most samples that a record of a table has, and the farthest offset.
-#[derive(Drop)]
-pub struct Most {
-    pub samples: u64,
-    pub offset: u64,
-}
-
-// What a pass over a table answers: the largest numbers that its records have, or a refusal.
+// What a pass over a table answers: the most samples that a record of it has, or a refusal.
 #[derive(Drop)]
 pub enum TableResult {
-    Ok(Most),
+    Ok(u64),
     Err(AmvError),
 }
 
@@ -34,15 +26,12 @@ fn whole_records(table: &[u8]) -> AmvResult
     AmvResult::Ok
 }
 
-// A known tag, samples below their limit, and an offset that a file can have.
+// A known tag, and samples below the limit.
 fn good_entry(e: ChunkIndexEntry) -> bool
     ensures { result ≡ good_entry e }
 {
     let position = e.position;
     if demuxer::position::COUNT_LIMIT <= position.samples.0 {
-        return false;
-    }
-    if FILE_LIMIT < position.cursor {
         return false;
     }
     if e.tag == chunk::VIDEO_CHUNK_TAG {
@@ -58,15 +47,14 @@ fn larger(a: u64, b: u64) -> u64
     if a < b { b } else { a }
 }
 
-// Refuses with 43 the first record of another tag, too many samples or an offset past the file limit, at its start. The one pass answers the
-// largest numbers too: a caller with lower limits then need not pass over the table again.
+// Refuses with 43 the first record of another tag or too many samples, at its start. The one pass answers the most samples too: a caller
+// with a limit below 2^62 then need not pass over the table again.
 fn good_entries(table: &[u8]) -> TableResult
-    ensures { said_table result ≡ pass_over 0 0 0 (entries_of table.now) }
+    ensures { said_table result ≡ pass_over 0 0 (entries_of table.now) }
 {
     let mut at: usize = 0;
     let mut left = table.len();
-    let mut samples: u64 = 0;
-    let mut offset: u64 = 0;
+    let mut most: u64 = 0;
     while ChunkIndexEntry::LEN <= left {
         left -= ChunkIndexEntry::LEN;
         let e = ChunkIndexEntry::read(table, at);
@@ -74,16 +62,15 @@ fn good_entries(table: &[u8]) -> TableResult
             return TableResult::Err(AmvError::BadRecord(at as u64));
         }
         let position = e.position;
-        samples = larger(samples, position.samples.0);
-        offset = larger(offset, position.cursor);
+        most = larger(most, position.samples.0);
         at += ChunkIndexEntry::LEN;
     }
-    TableResult::Ok(Most { samples, offset })
+    TableResult::Ok(most)
 }
 
-// Refuses a table with 41, then with 43, as whole_records and good_entries do, and answers the largest numbers of its records.
+// Refuses a table with 41, then with 43, as whole_records and good_entries do, and answers the most samples of a record.
 pub fn ask_table(table: &[u8]) -> TableResult
-    ensures { said_table result ≡ and_then (whole_records table.now) (λ _. pass_over 0 0 0 (entries_of table.now)) }
+    ensures { said_table result ≡ and_then (whole_records table.now) (λ _. pass_over 0 0 (entries_of table.now)) }
 {
     match whole_records(table) {
         AmvResult::Err(e) => TableResult::Err(e),

@@ -121,17 +121,17 @@ digits_fit (suc k) (suc w) n h =
       | no l ↦ rw (short k n (omega arith)) (omega arith)
     ]
 
-digits-many : (k w n : ℕ) → n < 10 ^ k → 10 ^ w ≤ n → w < length (digits k n)
+digits_many : (k w n : ℕ) → n < 10 ^ k → 10 ^ w ≤ n → w < length (digits k n)
 unfolding digits
-digits-many zero w n h p = absurd (omega (arith, one-le-pow w 10 (omega arith)))
-digits-many (suc k) zero n h p = digits_some k n
-digits-many (suc k) (suc w) n h p =
+digits_many zero w n h p = absurd (omega (arith, one-le-pow w 10 (omega arith)))
+digits_many (suc k) zero n h p = digits_some k n
+digits_many (suc k) (suc w) n h p =
     let t : 10 ^ suc w ≡ 10 * 10 ^ w = pow-succ' 10 w in
     let o : 1 ≤ 10 ^ w = one-le-pow w 10 (omega arith) in
-    rw (long k n (omega arith), length-append) (omega (arith, digits-many k w (n / 10) (tenth k n h) (omega arith)))
+    rw (long k n (omega arith), length-append) (omega (arith, digits_many k w (n / 10) (tenth k n h) (omega arith)))
 
-pub decimal-many : (w n : ℕ) → n < 18446744073709551616 → 10 ^ w ≤ n → w < length (decimal n)
-decimal-many w n h p = digits-many 20 w n (omega arith) p
+pub decimal_many : (w n : ℕ) → n < 18446744073709551616 → 10 ^ w ≤ n → w < length (decimal n)
+decimal_many w n h p = digits_many 20 w n (omega arith) p
 
 pub decimal_fit : (w n : ℕ) → n < 10 ^ suc w → length (decimal n) ≤ suc w
 decimal_fit w n h = digits_fit 20 w n h

@@ -1,9 +1,8 @@
 -- How a stored case is taken apart. Assumes nothing.
-use Rattle.std.specs.Prelude.{◌≡◌, ℕ, zero, suc, ◌+◌, ◌*◌, ◌%◌, ◌<◌, ◌≤◌, min, Bool, cond, ◌||◌, List, [], ◌∷◌, ◌++◌, length, take, drop, ℤ, pos, negsuc, ◌==◌, slice_index}
+use Rattle.std.specs.Prelude.{◌≡◌, ℕ, zero, suc, ◌+◌, ◌*◌, ◌%◌, ◌<◌, ◌≤◌, min, cond, List, [], ◌∷◌, ◌++◌, length, take, drop, ℤ, pos, negsuc, ◌==◌, slice_index}
 use Rattle.fields.specs.Le.{le}
 use Rattle.chunk_index.specs.Index.{build_of}
 use Rattle.page.specs.Page.{print_of}
-use Rattle.widen.specs.Widen.{widen_of}
 use Rattle.muxer.specs.Writer.{header_call, packet_call, trailer_call}
 use Rattle.capi.specs.Calls.{block_after_call, buffer_after_call}
 use Rattle.vectors.specs.declared.case.CaseAt.{CaseAt}
@@ -18,10 +17,6 @@ abbrev pub Parts : List ℕ → ℕ → CaseAt → Type 0
 Parts input at (Whole c) =
     (c.first ≡ at + 113) × (c.second ≡ c.first + le 8 input (at + 1)) × (c.end ≡ case_end input at) × (case_end input at ≤ length input)
 Parts input at Short = length input < case_end input at
-
--- the functions have the numbers from 1 on, and 0 is none
-abbrev pub function_count : ℕ
-function_count = 18
 
 -- its twelve words: three parameters, and nine words of a state
 abbrev pub head_of : List ℕ → ℕ → List ℕ
@@ -62,19 +57,12 @@ file_in bytes head = take (file_len bytes head) bytes
 abbrev pub table_in : List ℕ → List ℕ → List ℕ
 table_in bytes head = drop (file_len bytes head) bytes
 
--- a table or a page, which is filled from other bytes alone: the index's, the printed one, the widened one
-abbrev pub fills : ℕ → Bool
-fills function = function == 3 || (function == 13 || function == 17)
-
-abbrev pub filled_after : ℕ → List ℕ → List ℕ → List ℕ
-filled_after function bytes lent =
-    cond (function == 3) (build_of bytes lent).table (cond (function == 13) (print_of bytes lent).page (widen_of bytes lent).table)
-
--- the lent bytes after a case's call: these, a register block, or a writer's buffer
+-- the lent bytes after a case's call: a table, a page, a register block, or a writer's buffer
 abbrev pub lent_after : ℕ → List ℕ → List ℕ → List ℕ → List ℕ
 lent_after function bytes head lent =
-    cond (fills function) (filled_after function bytes lent)
+    cond (function == 3) (build_of bytes lent).table
     (cond (function == 4) (buffer_after_call (λ w. header_call w lent) (writer_in head) lent)
     (cond (function == 5) (buffer_after_call (λ w. packet_call w bytes (stream_in head) lent) (writer_in head) lent)
+    (cond (function == 13) (print_of bytes lent).page
     (cond (function == 16) (block_after_call (file_in bytes head) (table_in bytes head) (walker_in head) lent)
-    (buffer_after_call (λ w. trailer_call w lent) (writer_in head) lent))))
+    (buffer_after_call (λ w. trailer_call w lent) (writer_in head) lent)))))

@@ -1,6 +1,6 @@
 // A stored case, taken apart.
 ghost use Rattle.std.specs.Prelude.{◌≡◌, ◌+◌, ◌<◌, ◌≤◌, length, if◌then◌else◌, nat_lt};
-ghost use Rattle.vectors.specs.Cases.{Parts, function_count, head_of};
+ghost use Rattle.vectors.specs.Cases.{Parts, head_of};
 
 // The functions that a case may call, by the number in its first byte.
 #[derive(Drop)]
@@ -55,17 +55,14 @@ impl Functions {
     // A step of the register block, again a call that writes to lent bytes.
     pub const REGISTER_STEP: usize = 16;
 
-    // An old index widened, again a call that writes to lent bytes.
-    pub const WIDEN_INDEX: usize = 17;
-
     // One more than the last number, for a table of counts by function.
-    pub const COUNT: usize = 18;
+    pub const COUNT: usize = 17;
 }
 
 // The function of a case's first byte. Refuses none: a case of no function is run as the first, so that no case is passed over.
 pub fn function_of(byte: u8) -> usize
-    ensures value { result ≡ (if nat_lt byte function_count then byte else 1) }
-    ensures upper_bound { result < function_count }
+    ensures value { result ≡ (if nat_lt byte 17 then byte else 1) }
+    ensures upper_bound { result < 17 }
 {
     if (byte as usize) < Functions::COUNT {
         byte as usize

@@ -28,7 +28,6 @@ fn print_counts(counts: [u64; Functions::COUNT]) {
     print_count(b"decode_block", counts[Functions::DECODE_BLOCK]);
     print_count(b"chunk_header", counts[Functions::CHUNK_HEADER]);
     print_count(b"register_step", counts[Functions::REGISTER_STEP]);
-    print_count(b"widen_index", counts[Functions::WIDEN_INDEX]);
 }
 
 // Every case in turn, then how many there were of each function.

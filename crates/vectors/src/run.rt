@@ -3,12 +3,10 @@ ghost use Rattle.std.specs.Prelude.{◌≡◌, ◌/◌, min, ◌&&◌, ◌||◌,
 ghost use Rattle.fields.specs.Le.{put};
 ghost use Rattle.chunk_index.specs.Index.{build_of};
 ghost use Rattle.page.specs.Page.{print_of};
-ghost use Rattle.widen.specs.Widen.{widen_of};
 ghost use Rattle.sound.specs.Sound.{decode_of};
 ghost use Rattle.muxer.specs.Writer.{header_call, packet_call, trailer_call};
 ghost use Rattle.capi.specs.Calls.{block_after_call, buffer_after_call};
-ghost use Rattle.vectors.specs.Cases.{request_of, tags_in, walker_in, writer_in, stream_in, file_in, table_in};
-ghost use Rattle.vectors.specs.Cases.{fills, filled_after, lent_after};
+ghost use Rattle.vectors.specs.Cases.{request_of, tags_in, walker_in, writer_in, stream_in, file_in, table_in, lent_after};
 
 use crate::case::Functions;
 use crate::print::{
@@ -146,17 +144,6 @@ fn run_print_index(table: &[u8], page: &mut [u8])
     print_call(b"print_index", number);
     print_2(out);
     print_bytes(page);
-    print_end();
-}
-
-fn run_widen_index(old: &[u8], table: &mut [u8])
-    ensures { table.new ≡ (widen_of old.now table.old).table }
-{
-    let mut out = [0u64; 2];
-    let number = capi::amv_widen_index(old, table, &mut out);
-    print_call(b"widen_index", number);
-    print_2(out);
-    print_bytes(table);
     print_end();
 }
 
@@ -320,40 +307,17 @@ fn run_reading(function: usize, bytes: &[u8], head: [u64; 12]) {
     }
 }
 
-// Whether a function is one of those that fill the lent bytes from the others and take no state.
-fn fills(function: usize) -> bool
-    ensures { result ≡ fills function }
-{
-    if function == Functions::BUILD_CHUNK_INDEX {
-        return true;
-    }
-    if function == Functions::PRINT_INDEX {
-        return true;
-    }
-    function == Functions::WIDEN_INDEX
-}
-
-fn run_filling(function: usize, bytes: &[u8], lent: &mut [u8])
-    ensures { lent.new ≡ filled_after function bytes.now lent.old }
-{
-    if function == Functions::BUILD_CHUNK_INDEX {
-        run_build_chunk_index(bytes, lent);
-    } else if function == Functions::PRINT_INDEX {
-        run_print_index(bytes, lent);
-    } else {
-        run_widen_index(bytes, lent);
-    }
-}
-
 fn run_writing(function: usize, bytes: &[u8], lent: &mut [u8], head: [u64; 12])
     ensures { lent.new ≡ lent_after function bytes.now head lent.old }
 {
-    if fills(function) {
-        run_filling(function, bytes, lent);
+    if function == Functions::BUILD_CHUNK_INDEX {
+        run_build_chunk_index(bytes, lent);
     } else if function == Functions::WRITE_HEADER {
         run_write_header(head, lent);
     } else if function == Functions::WRITE_PACKET {
         run_write_packet(head, lent, bytes);
+    } else if function == Functions::PRINT_INDEX {
+        run_print_index(bytes, lent);
     } else if function == Functions::REGISTER_STEP {
         run_register_step(bytes, head, lent);
     } else {
@@ -363,15 +327,15 @@ fn run_writing(function: usize, bytes: &[u8], lent: &mut [u8], head: [u64; 12])
 
 // Whether a function is one of those that write to lent bytes.
 fn writes(function: usize) -> bool
-    ensures { result ≡ (fills function || (function == 16 || (nat_le 4 function && nat_le function 6))) }
+    ensures { result ≡ (function == 13 || (function == 16 || (nat_le 3 function && nat_le function 6))) }
 {
-    if fills(function) {
+    if function == Functions::PRINT_INDEX {
         return true;
     }
     if function == Functions::REGISTER_STEP {
         return true;
     }
-    if function < Functions::WRITE_HEADER {
+    if function < Functions::BUILD_CHUNK_INDEX {
         return false;
     }
     function <= Functions::WRITE_TRAILER

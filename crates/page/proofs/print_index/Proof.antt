@@ -7,10 +7,10 @@ use borrow.Author.Rules.{rules}
 use lib.ListN.{length}
 use Rattle.error.specs.Answer.{accepted}
 use Rattle.error.specs.Refusal.{said}
-use Rattle.chunk_index.specs.Entry.{entry_len, entries_of}
+use Rattle.chunk_index.specs.Entry.{entry_len}
 use Rattle.table.proofs.Records.{length-entries}
 use Rattle.page.specs.Page.{Printing}
-use Rattle.page.proofs.Lines.{questions_passed, print_refused, printed, columns-passed, narrow-lines}
+use Rattle.page.proofs.Lines.{questions_passed, print_refused, printed}
 use Rattle.page.proofs.print_index.Statement.{statement}
 use Rattle.page.proofs.print_index.Tie as tie
 
@@ -26,9 +26,8 @@ enum_told c = search rules
 put-lines-requires : tie.Need-put-lines-requires
 put-lines-requires c κs =
     let s = c.before.before.before in
-    let t = s.before.before.before.args.table.now in
-    let p = questions_passed t _ (sym s.ask-page.ensures ∙ ap said c.before.enum_told.given.1) in
-    (p.fits, narrow-lines (entries_of t) (columns-passed (entries_of t) p.narrow))
+    let p = questions_passed s.before.before.before.args.table.now _ (sym s.ask-page.ensures ∙ ap said c.before.enum_told.given.1) in
+    (p.fits, p.narrow)
 
 returns : tie.Need-returns
 returns c =

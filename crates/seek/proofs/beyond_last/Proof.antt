@@ -1,18 +1,18 @@
 -- `seek::beyond_last` meets its contract. Without records `past_last` is the position itself. Otherwise only the last record counts (`past-records`), and
--- its counts are small since they are read from 4 bytes each (`entry-small`), its offset since 43 has let it pass (`last_within`).
+-- its fields are small since they are read from bytes (`entry-small`).
 -- Assumes nothing.
 use mathlib.Core.Path.{sym, ap, ◌∙◌}
 use Rattle.fields.specs.Le.{Bytes}
-use Rattle.chunk_index.specs.Entry.{records_from}
+use Rattle.chunk_index.specs.Entry.{entries_from}
 use Rattle.seek.specs.Seek.{beyond, past_last}
 use Rattle.table.proofs.Records.{entry-small}
-use Rattle.seek.proofs.Records.{past-records, last_within}
+use Rattle.seek.proofs.Records.{past-records}
 use borrow.Author.Rules.{rules}
 use Rattle.seek.proofs.beyond_last.Statement.{statement}
 use Rattle.seek.proofs.beyond_last.Tie as tie
 
 returns : tie.Need-returns
-unfolding past_last records_from
+unfolding past_last entries_from
 returns c = rw c.if1.true
 
 sub_read : tie.Need-overflow-sub-read
@@ -26,12 +26,7 @@ read-requires c κs = search rules
 
 beyond-entry-requires : tie.Need-beyond-entry-requires
 unfolding Bytes
-beyond-entry-requires c κs =
-    let s = c.before.before.before in
-    rw c.read.ensures (
-      entry-small _ _ (λ k. (c.before.before.shared-slice-known.given k).fits),
-      last_within s.args.table.now c.before.if1.false s.requires,
-    )
+beyond-entry-requires c κs = rw c.read.ensures (entry-small _ _ (λ k. (c.before.before.shared-slice-known.given k).fits))
 
 returns-2 : tie.Need-returns-2
 returns-2 c =

@@ -6,11 +6,10 @@ use Prim.Native.Nat.{ℕ}
 use lib.IntN.{pos}
 use mir.Syntax.{w64}
 use mir.ValLaws.{to_z-of_z}
-use Rattle.error.specs.Refusal.{said}
 use Rattle.chunk_index.specs.Entry.{entries_of}
 use Rattle.seek.specs.Seek.{find}
 use Rattle.seek.specs.Steps.{least}
-use Rattle.seek.proofs.Seeks.{questions_good, seek_refused, seek_lands}
+use Rattle.seek.proofs.Seeks.{seek_refused, seek_lands}
 use borrow.Author.Rules.{rules}
 use Rattle.seek.proofs.seek_to_via_index.Statement.{statement}
 use Rattle.seek.proofs.seek_to_via_index.Tie as tie
@@ -31,10 +30,7 @@ find-entry-requires : tie.Need-find-entry-requires
 find-entry-requires c κs = search rules
 
 land-requires : tie.Need-land-requires
-land-requires c κs =
-    let q = c.before.before.before.before in
-    let a = q.before.before.args in
-    questions_good a.table.now a.walker a.stream (sym q.ask-seek.ensures ∙ ap said c.before.before.enum_told.given.1)
+land-requires c κs = search rules
 
 returns : tie.Need-returns
 returns c =

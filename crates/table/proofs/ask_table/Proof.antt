@@ -23,13 +23,13 @@ good-entries-requires c κs = search rules
 returns : tie.Need-returns
 returns c =
     let t = c.before.before.before.before.before.args.table.now in
-    sym (then_err (λ (u : Unit). pass_over 0 0 0 (entries_of t)) c.before.before.before.whole-records.ensures c.before.e.given.1)
+    sym (then_err (λ (u : Unit). pass_over 0 0 (entries_of t)) c.before.before.before.whole-records.ensures c.before.e.given.1)
 
 returns-2 : tie.Need-returns-2
 returns-2 c =
     let t = c.before.before.before.before.before.args.table.now in
     c.good-entries.ensures
-    ∙ sym (then_ok (λ (u : Unit). pass_over 0 0 0 (entries_of t)) c.before.before.before.whole-records.ensures c.before.enum_told.given.1)
+    ∙ sym (then_ok (λ (u : Unit). pass_over 0 0 (entries_of t)) c.before.before.before.whole-records.ensures c.before.enum_told.given.1)
 
 pub ask-table-spec : {M : Type 1} → statement M
 ask-table-spec =

@@ -1,8 +1,8 @@
--- `table::good_entries` meets its contract. The invariant of its loop: the pass over the records of the bytes that are left, from the largest numbers so
--- far on, is the pass over all of them, and offset and rest add up to the table's length. The measure is the rest; `pass_on`, `pass_no` and `entries_off` are
+-- `table::good_entries` meets its contract. The invariant of its loop: the pass over the records of the bytes that are left, from the most samples so far
+-- on, is the pass over all of them, and offset and rest add up to the table's length. The measure is the rest; `pass_on`, `pass_no` and `entries_off` are
 -- a turn and its two ends.
 -- Assumes nothing.
-use mathlib.Core.Path.{◌≡◌, refl, sym, ap₂, ◌∙◌}
+use mathlib.Core.Path.{◌≡◌, refl, sym, ap, ◌∙◌}
 use Prim.Native.Nat.{ℕ, ◌+◌, ◌-◌, ◌/◌}
 use native.Mathlib.Omega.{arith}
 use borrow.Author.Rules.{rules}
@@ -10,18 +10,17 @@ use borrow.Author.Tests.{not-true, not-false}
 use lib.ListN.{length}
 use Rattle.chunk_index.specs.Entry.{entry_len, entries_from, entries_of}
 use Rattle.table.specs.Table.{ask_each}
-use Rattle.table.specs.Steps.{largest, pass_over}
+use Rattle.table.specs.Steps.{most_samples, pass_over}
 use Rattle.table.proofs.Records.{entries_off, pass_on, pass_no}
 use Rattle.table.proofs.good_entries.Statement.{statement}
 use Rattle.table.proofs.good_entries.Tie as tie
 
 abbrev invariant-loop : tie.invariant-loop
-invariant-loop table at₀ left₀ samples₀ offset₀ at left samples offset =
-    (at + left ≡ length table)
-    × (pass_over at samples offset (entries_from (left / entry_len) table at) ≡ pass_over 0 0 0 (entries_of table))
+invariant-loop table at₀ left₀ most₀ at left most =
+    (at + left ≡ length table) × (pass_over at most (entries_from (left / entry_len) table at) ≡ pass_over 0 0 (entries_of table))
 
 abbrev decreases-loop : tie.decreases-loop
-decreases-loop table at₀ left₀ samples₀ offset₀ at left samples offset = left
+decreases-loop table at₀ left₀ most₀ at left most = left
 
 loop-holds : tie.Need-loop-init invariant-loop decreases-loop
 loop-holds c = (omega arith, refl)
@@ -37,13 +36,10 @@ returns c =
     let l = c.before.before.before.before.loop in
     let t = c.before.before.before.before.before.before.args.table.now in
     let g = sym c.before.good-entry.ensures ∙ not-true _ c.if1.true in
-    sym (pass_no t l.at l.left (omega arith) c.before.before.read.ensures l.samples l.offset g) ∙ l.invariant.1
+    sym (pass_no t l.at l.left (omega arith) c.before.before.read.ensures l.most g) ∙ l.invariant.1
 
 larger-requires : tie.Need-larger-requires invariant-loop decreases-loop
 larger-requires c κs = search rules
-
-larger-requires-2 : tie.Need-larger-requires-2 invariant-loop decreases-loop
-larger-requires-2 c κs = search rules
 
 add_at : tie.Need-overflow-add-at invariant-loop decreases-loop
 add_at c = omega arith
@@ -53,18 +49,18 @@ loop-less c = omega arith
 
 loop-again : tie.Need-loop-preserved invariant-loop decreases-loop
 loop-again c =
-    let r = c.before.before.before.before.before in
+    let r = c.before.before.before.before in
     let l = r.before.before.loop in
     let t = r.before.before.before.before.args.table.now in
-    let g = sym c.before.before.before.before.good-entry.ensures ∙ not-false _ c.before.before.before.if1.false in
+    let g = sym c.before.before.before.good-entry.ensures ∙ not-false _ c.before.before.if1.false in
     let rest = entries_from ((l.left - entry_len) / entry_len) t (l.at + entry_len) in (
       omega arith,
-      ap₂ (λ (m n : ℕ). pass_over (l.at + entry_len) m n rest) c.before.larger.ensures c.larger2.ensures
-          ∙ sym (pass_on t l.at l.left (omega arith) r.read.ensures l.samples l.offset g) ∙ l.invariant.1,
+      ap (λ (m : ℕ). pass_over (l.at + entry_len) m rest) c.larger.ensures
+          ∙ sym (pass_on t l.at l.left (omega arith) r.read.ensures l.most g) ∙ l.invariant.1,
     )
 
 returns-2 : tie.Need-returns-2 invariant-loop decreases-loop
-unfolding ask_each largest
+unfolding ask_each most_samples
 returns-2 c = let l = c.before.loop in
     rw (entries_off c.before.before.before.args.table.now l.at l.left (omega arith)) at l.invariant.1
 
@@ -79,7 +75,6 @@ good-entries-spec =
     good-entry-requires
     returns
     larger-requires
-    larger-requires-2
     add_at
     loop-less
     loop-again

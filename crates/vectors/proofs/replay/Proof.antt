@@ -1,15 +1,15 @@
--- `vectors::replay` is safe and ends; it has no contract of its own. The invariant of its loop: `at` is at most the input's length, and there is a
--- count for each function. The measure is the length less `at`. `whole` says where the parts of a case stand, and a case takes 113 bytes or more.
+-- `vectors::replay` is safe and ends; it has no contract of its own. The invariant of its loop: `at` is at most the input's length, and there are 17
+-- counts. The measure is the length less `at`. `whole` says where the parts of a case stand, and a case takes 113 bytes or more.
 -- Assumes nothing.
 use Rattle.std.proofs.Common.{◌≡◌, ◌-◌, ◌≤◌, length, refl, arith, length-set, rules}
-use Rattle.vectors.specs.Cases.{Parts, function_count}
+use Rattle.vectors.specs.Cases.{Parts}
 use Rattle.vectors.specs.declared.case.CaseAt.TheVariants.{Whole}
 use Rattle.vectors.proofs.Parts.{whole}
 use Rattle.vectors.proofs.replay.Statement.{statement}
 use Rattle.vectors.proofs.replay.Tie as tie
 
 abbrev invariant-loop : tie.invariant-loop
-invariant-loop input counts₀ at₀ counts at = (at ≤ length input) × (length counts ≡ function_count)
+invariant-loop input counts₀ at₀ counts at = (at ≤ length input) × (length counts ≡ 17)
 
 abbrev decreases-loop : tie.decreases-loop
 decreases-loop input counts₀ at₀ counts at = length input - at

@@ -146,9 +146,6 @@ enum-told-24 c = search rules
 enum-told-25 : tie.Need-enum-told-25
 enum-told-25 c = search rules
 
-enum-known-self-21 : tie.Need-enum-known-self-21
-enum-known-self-21 c = search rules
-
 returns : tie.Need-returns
 returns c = is c.enum_told.given.1
 
@@ -284,9 +281,6 @@ returns-44 c = is c.enum-told24.given.1
 returns-45 : tie.Need-returns-45
 returns-45 c = is c.enum-told25.given.1
 
-returns-46 : tie.Need-returns-46
-returns-46 c = is c.before.self21.given.1
-
 pub refusal-spec : {M : Type 1} → statement M
 refusal-spec =
     tie.close
@@ -336,7 +330,6 @@ refusal-spec =
     enum-told-23
     enum-told-24
     enum-told-25
-    enum-known-self-21
     returns
     returns-2
     returns-3
@@ -381,5 +374,4 @@ refusal-spec =
     returns-42
     returns-43
     returns-44
-    returns-45
-    returns-46)
+    returns-45)

@@ -1,4 +1,4 @@
--- `vectors::case::function_of` meets its contract. Each arm rewrites the choice by the test that it has made, and the number is one of a function in both.
+-- `vectors::case::function_of` meets its contract. Each arm rewrites the choice by the test that it has made, and the number is below 17 in both.
 -- Assumes nothing.
 use Rattle.std.proofs.Common.{arith, le-ltb, lt-ltb}
 use Rattle.vectors.proofs.case.function_of.Statement.{statement}

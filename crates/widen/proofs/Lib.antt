@@ -1,5 +1,0 @@
-pub mod Records
-pub mod Widening
-pub mod Sentences
-pub mod Widened
-pub mod Apart
