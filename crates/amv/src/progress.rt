@@ -5,7 +5,7 @@ ghost use Rattle.amv.specs.Progress.{matches_eof};
 use demuxer::walker::{Trailer, Walker};
 
 // Whether the trailer ends the file, if it was met.
-#[derive(Drop)]
+#[derive(Clone, Copy)]
 pub enum TrailerMatch {
     Matches(bool),
     NotMet,

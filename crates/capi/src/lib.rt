@@ -1,5 +1,7 @@
 // The C interface. include/amv.h declares it, with the words of each `out`. A call returns the number of its refusal, or 0; it writes every
 // word of `out`, and where it refuses it changes nothing else.
+#![tactic(auto)]
+
 ghost use Rattle.std.specs.Prelude.{◌≡◌, cond};
 ghost use Rattle.error.specs.Answer.{accepted};
 ghost use Rattle.chunk.specs.Interleave.{interleave};

@@ -1,4 +1,6 @@
 // A chunk's tag and its 8-byte header.
+#![tactic(auto)]
+
 pub mod interleave;
 
 ghost use Rattle.std.specs.Prelude.{◌≡◌};
@@ -16,7 +18,7 @@ pub const AUDIO_CHUNK_TAG: u32 = 0x62773130; // 01wb
 pub const PAYLOAD_LIMIT: usize = fields::U32_MAX as usize;
 
 // What a tag says of its chunk; any tag but the two is kept.
-#[derive(Drop)]
+#[derive(Clone, Copy)]
 pub enum ChunkKind {
     Video,
     Audio,
@@ -67,7 +69,7 @@ pub fn advance_total(size: u32) -> u64
 }
 
 // The 8 bytes before a payload.
-#[derive(Drop)]
+#[derive(Clone, Copy)]
 pub struct ChunkHeader {
     pub tag: u32,
     // Of the payload alone, without this header.
@@ -75,7 +77,7 @@ pub struct ChunkHeader {
 }
 
 // What `ChunkHeader::parse` and `parse_at` answer.
-#[derive(Drop)]
+#[derive(Clone, Copy)]
 pub enum ChunkHeaderResult {
     Ok(ChunkHeader),
     Err(AmvError),

@@ -7,7 +7,7 @@ ghost use Rattle.chunk_index.specs.Steps.{Small};
 use demuxer::position::{BlockCount, FrameStamp, Position, SampleStamp};
 
 // A chunk's tag, and where it stands.
-#[derive(Drop)]
+#[derive(Clone, Copy)]
 pub struct ChunkIndexEntry {
     pub tag: u32,
     pub position: Position,

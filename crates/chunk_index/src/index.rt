@@ -16,7 +16,7 @@ use error::AmvError;
 use walk::{ChunkAt, Kind, Step, step_at};
 
 // The number of records, or a refusal.
-#[derive(Drop)]
+#[derive(Clone, Copy)]
 pub enum IndexResult {
     Ok(usize),
     Err(AmvError),

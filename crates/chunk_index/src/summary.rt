@@ -11,7 +11,7 @@ use error::{AmvError, AmvResult};
 use walk::{Kind, Step, step_at};
 
 // Frames and blocks.
-#[derive(Drop)]
+#[derive(Clone, Copy)]
 pub struct ChunkCounts {
     pub frames: u64,
     pub blocks: u64,
@@ -38,7 +38,7 @@ impl ChunkCounts {
 }
 
 // The counts, or a refusal.
-#[derive(Drop)]
+#[derive(Clone, Copy)]
 pub enum SummaryResult {
     Ok(ChunkCounts),
     Err(AmvError),
@@ -46,7 +46,7 @@ pub enum SummaryResult {
 
 // What a walk counts, and whether it knows every tag. Counts and refusal do not share their bytes, as they do in a result: the loop would keep
 // the counts in pieces.
-#[derive(Drop)]
+#[derive(Clone, Copy)]
 struct Counted {
     counts: ChunkCounts,
     known: AmvResult,

@@ -13,7 +13,7 @@ pub const TRAILER_TAG: u32 = 0x5f564d41;
 pub const TRAILER_SIZE: u32 = 0x5f444e45;
 
 // What stands there; a chunk with the length of its payload.
-#[derive(Drop)]
+#[derive(Clone, Copy)]
 pub enum Head {
     // Fewer than 8 bytes.
     Short,
@@ -24,7 +24,7 @@ pub enum Head {
 }
 
 // A payload: its start and its length, or that the file ends before it does.
-#[derive(Drop)]
+#[derive(Clone, Copy)]
 pub enum Body {
     Whole(usize, usize),
     Short,

@@ -3,14 +3,14 @@ ghost use Rattle.std.specs.Prelude.{◌≡◌};
 ghost use Rattle.demuxer.specs.Packet.{payload_of, packet_duration};
 
 // How long a packet lasts: in frames for a frame, in samples for sound, if that is known.
-#[derive(Drop)]
+#[derive(Clone, Copy)]
 pub enum PacketDuration {
     Ticks(u64),
     None,
 }
 
 // What a read gives: the stream, where its payload stands in the file, and when and how long it is shown.
-#[derive(Drop)]
+#[derive(Clone, Copy)]
 pub struct Packet {
     // 0 for frames, 1 for sound.
     pub stream: u32,

@@ -6,19 +6,19 @@ use crate::walker::Walker;
 use chunk::advance_total;
 
 // How many frames came before.
-#[derive(Drop)]
+#[derive(Clone, Copy)]
 pub struct FrameStamp(pub u64);
 
 // How many samples came before.
-#[derive(Drop)]
+#[derive(Clone, Copy)]
 pub struct SampleStamp(pub u64);
 
 // How many sound blocks came before.
-#[derive(Drop)]
+#[derive(Clone, Copy)]
 pub struct BlockCount(pub u64);
 
 // A chunk's offset, and the frames, samples and blocks before it.
-#[derive(Drop)]
+#[derive(Clone, Copy)]
 pub struct Position {
     pub cursor: u64,
     pub frames: FrameStamp,

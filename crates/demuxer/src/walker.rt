@@ -10,7 +10,7 @@ use error::AmvError;
 use prelude::prelude::AmvPrelude;
 
 // Where the trailer was met, if it was.
-#[derive(Drop)]
+#[derive(Clone, Copy)]
 pub enum Trailer {
     At(u64),
     NotMet,
@@ -18,7 +18,7 @@ pub enum Trailer {
 
 // The state of reading, which every read returns anew: where it stands, whether it has ended, whether the file is cut (it ends before its
 // trailer, at a chunk or inside one), and the trailer.
-#[derive(Drop)]
+#[derive(Clone, Copy)]
 pub struct Walker {
     pub position: Position,
     pub end: bool,
@@ -27,7 +27,7 @@ pub struct Walker {
 }
 
 // What a read answers.
-#[derive(Drop)]
+#[derive(Clone, Copy)]
 pub enum NextPacket {
     Packet(Packet),
     End,
@@ -35,7 +35,7 @@ pub enum NextPacket {
 }
 
 // A read's answer, and the walker that the next call gets.
-#[derive(Drop)]
+#[derive(Clone, Copy)]
 pub struct Read {
     pub answer: NextPacket,
     pub walker: Walker,

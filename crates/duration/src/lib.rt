@@ -1,9 +1,11 @@
 // The run length: hours, minutes and seconds, a byte each.
+#![tactic(auto)]
+
 ghost use Rattle.std.specs.Prelude.{◌≡◌};
 ghost use Rattle.duration.specs.Duration.{unpacked_of, packed_of, total_seconds, run_length, same_duration, consistency, device_conformant};
 
 // A run length as the file has it.
-#[derive(Drop)]
+#[derive(Clone, Copy)]
 pub struct AmvDuration {
     pub seconds: u8,
     pub minutes: u8,
@@ -11,7 +13,7 @@ pub struct AmvDuration {
 }
 
 // How a header's run length relates to the one that a frame count gives.
-#[derive(Drop)]
+#[derive(Clone, Copy)]
 pub enum DurationConsistency {
     Exact,
     // One second less, as some devices write it.

@@ -1,17 +1,19 @@
 // The refusals: one case for each question of documents 01 and 02 that a call can answer with no.
+#![tactic(auto)]
+
 ghost use Rattle.std.specs.Prelude.{◌≡◌};
 ghost use Rattle.error.specs.Answer.{number_of, place_of};
 ghost use Rattle.error.specs.Refusal.{refusal_of, said};
 
 // A refusal as the documents give it: the number of the question, and the place where it was asked.
-#[derive(Drop)]
+#[derive(Clone, Copy)]
 pub struct Refusal {
     pub number: u32,
     pub place: u64,
 }
 
 // Why a call refuses: a case for each question, carrying its place where no document fixes it. `refusal` gives each case's number.
-#[derive(Drop)]
+#[derive(Clone, Copy)]
 pub enum AmvError {
     FileTooLong,
     PreludeCut(u64),
@@ -61,7 +63,7 @@ pub enum AmvError {
 }
 
 // What a call answers that only checks: nothing to say, or a refusal.
-#[derive(Drop)]
+#[derive(Clone, Copy)]
 pub enum AmvResult {
     Ok,
     Err(AmvError),

@@ -1,5 +1,7 @@
 // Little-endian fields of a byte slice at an offset, and the two capped operations. A reader or writer of a field asks that its
 // bytes are there: whoever calls it has tested that already, and it compiles to one load or one store.
+#![tactic(auto)]
+
 pub mod file;
 
 ghost use Rattle.std.specs.Prelude.{◌≡◌, ◌+◌, ◌*◌, ◌<◌, ◌≤◌, min, length};

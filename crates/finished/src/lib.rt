@@ -1,4 +1,6 @@
 // The check: whether a file is a finished recording, and what it holds.
+#![tactic(auto)]
+
 ghost use Rattle.std.specs.Prelude.{◌≡◌, ◌&&◌, ◌≤◌, ◌+◌, ◌-◌, length};
 ghost use Rattle.chunk.specs.Chunk.{kind_of};
 ghost use Rattle.chunk.specs.Interleave.{interleave_at, even};
@@ -13,7 +15,7 @@ use prelude::prelude::{AmvPrelude, AmvPreludeResult};
 use walk::{Step, step_at};
 
 // What the check answers of a finished recording.
-#[derive(Drop)]
+#[derive(Clone, Copy)]
 pub struct Totals {
     pub frames: u64,
     pub blocks: u64,
@@ -25,7 +27,7 @@ pub struct Totals {
 }
 
 // The totals, or a refusal.
-#[derive(Drop)]
+#[derive(Clone, Copy)]
 pub enum CheckResult {
     Ok(Totals),
     Err(AmvError),

@@ -1,5 +1,7 @@
 // The lines of a listing, as bytes at an offset of a lent buffer. Each function answers where its bytes end. None refuses: a caller lends
 // the room that `requires` names, and so many bytes hold the longest line of the kind.
+#![tactic(auto)]
+
 ghost use Rattle.std.specs.Prelude.{[], ◌∷◌, ◌++◌, ◌+◌, ◌≤◌, length};
 ghost use Rattle.text.specs.Text.{decimal};
 ghost use Rattle.text.specs.Written.{Written};

@@ -1,4 +1,6 @@
 // Reads a recording from standard input and writes its listing.
+#![tactic(auto)]
+
 use libc::{STDIN_FILENO, STDOUT_FILENO};
 use listing::{INPUT_LIMIT, ROOM, list};
 

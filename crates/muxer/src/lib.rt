@@ -1,4 +1,6 @@
 // The writer: a state by value over one lent buffer, and the three calls that write a file.
+#![tactic(auto)]
+
 ghost use Rattle.std.specs.Prelude.{◌≡◌, ◌+◌, ◌≤◌, length};
 ghost use Rattle.chunk.specs.Chunk.{advance_total, payload_limit, trailer_bytes};
 ghost use Rattle.error.specs.Answer.{accepted};
@@ -22,7 +24,7 @@ use prelude::prelude::AmvPrelude;
 const FRAME_LIMIT: u64 = 18446744073709551615;
 
 // What a new file holds.
-#[derive(Drop)]
+#[derive(Clone, Copy)]
 pub struct Settings {
     pub width: u32,
     pub height: u32,
@@ -33,7 +35,7 @@ pub struct Settings {
 
 // The state of writing, which every call returns anew: the settings, what has been written and how far, and the frames so far. The bytes
 // stay in the caller's buffer.
-#[derive(Drop)]
+#[derive(Clone, Copy)]
 pub struct Writer {
     pub settings: Settings,
     pub begun: bool,
@@ -43,7 +45,7 @@ pub struct Writer {
 }
 
 // A call's answer and the state that the next call gets.
-#[derive(Drop)]
+#[derive(Clone, Copy)]
 pub struct Wrote {
     pub result: AmvResult,
     pub writer: Writer,

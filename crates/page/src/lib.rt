@@ -1,4 +1,6 @@
 // The page: the records of an index as lines for a strip printer.
+#![tactic(auto)]
+
 ghost use Rattle.std.specs.Prelude.{◌≡◌, ◌+◌, ◌*◌, ◌≤◌, length};
 ghost use Rattle.error.specs.Answer.{accepted};
 ghost use Rattle.error.specs.Refusal.{said};
@@ -21,7 +23,7 @@ pub const COLUMNS: usize = 40;
 const SAMPLES_LIMIT: u64 = 1_000_000_000_000_000_000;
 
 // What the call answers: how many lines the page has, or a refusal.
-#[derive(Drop)]
+#[derive(Clone, Copy)]
 pub enum PageResult {
     Ok(usize),
     Err(AmvError),

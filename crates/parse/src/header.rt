@@ -8,7 +8,7 @@ use duration::AmvDuration;
 use error::{AmvError, AmvResult};
 
 // The fields of the body that a reader needs; the rest of it is zero, which the strict parse asks.
-#[derive(Drop)]
+#[derive(Clone, Copy)]
 pub struct AmvHeader {
     pub micros_per_frame: u32,
     pub width: u32,
@@ -20,7 +20,7 @@ pub struct AmvHeader {
 }
 
 // What `AmvHeader::parse` answers.
-#[derive(Drop)]
+#[derive(Clone, Copy)]
 pub enum AmvHeaderResult {
     Ok(AmvHeader),
     Err(AmvError),

@@ -15,21 +15,21 @@ pub const AMV_AUDIO_PREAMBLE_LEN: u64 = 8;
 pub const IMA_STEP_INDEX_MAX: u8 = 88;
 
 // The decoder's first state in one number, and how many samples the block holds.
-#[derive(Drop)]
+#[derive(Clone, Copy)]
 pub struct AmvAudioPreamble {
     pub state: u32,
     pub decoded_sample_count: u32,
 }
 
 // What `AmvAudioPreamble::parse` answers.
-#[derive(Drop)]
+#[derive(Clone, Copy)]
 pub enum AmvAudioPreambleResult {
     Ok(AmvAudioPreamble),
     Err(AmvError),
 }
 
 // The bytes of a block beyond its nibbles, or none where the block is too short for them.
-#[derive(Drop)]
+#[derive(Clone, Copy)]
 pub enum PaddingSlack {
     Some(u64),
     None,

@@ -7,7 +7,7 @@ ghost use Rattle.parse.specs.WaveFormat.{new_wave_format, wave_format_of, said_w
 use error::{AmvError, AmvResult};
 
 // Microsoft's fields, by its names.
-#[derive(Drop)]
+#[derive(Clone, Copy)]
 pub struct AmvWaveFormat {
     pub format_tag: u16,
     pub channels: u16,
@@ -19,7 +19,7 @@ pub struct AmvWaveFormat {
 }
 
 // What `AmvWaveFormat::parse` answers.
-#[derive(Drop)]
+#[derive(Clone, Copy)]
 pub enum AmvWaveFormatResult {
     Ok(AmvWaveFormat),
     Err(AmvError),

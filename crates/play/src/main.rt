@@ -1,4 +1,6 @@
 // Writes a small recording through `AmvMuxer`, plays it through `AmvDemuxer` with one jump, and prints what was written and read.
+#![tactic(auto)]
+
 ghost use Rattle.std.specs.Prelude.{◌≡◌, length, take};
 ghost use Rattle.muxer.specs.Writer.{packet_call};
 ghost use Rattle.play.specs.Recording.{WriterLeft, pair_of, packets_of, recording_of, played};

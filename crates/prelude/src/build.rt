@@ -8,7 +8,7 @@ use crate::layout::LayoutItem;
 use crate::prelude::AmvPrelude;
 
 // The bytes together with the settings that they hold.
-#[derive(Drop)]
+#[derive(Clone, Copy)]
 pub struct BuiltPrelude {
     pub bytes: [u8; AmvPrelude::LEN],
     pub width: u32,

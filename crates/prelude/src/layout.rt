@@ -31,7 +31,7 @@ const AMVH_SIZE: u32 = AmvHeader::LEN as u32;
 const SOUND_STRF_SIZE: u32 = AmvWaveFormat::LEN as u32;
 
 // Each with its offset: a tag, a size that is fixed, or a body of so many bytes.
-#[derive(Drop)]
+#[derive(Clone, Copy)]
 pub enum LayoutItem {
     Tag(usize, u32),
     Size(usize, u32),

@@ -20,7 +20,7 @@ const WAVE_FORMAT_START: usize = 284;
 const WAVE_FORMAT_END: usize = WAVE_FORMAT_START + AmvWaveFormat::LEN;
 
 // What a prelude says: the two bodies, and where the chunks start.
-#[derive(Drop)]
+#[derive(Clone, Copy)]
 pub struct AmvPrelude {
     pub header: AmvHeader,
     pub audio_format: AmvWaveFormat,
@@ -28,7 +28,7 @@ pub struct AmvPrelude {
 }
 
 // What the two parses answer.
-#[derive(Drop)]
+#[derive(Clone, Copy)]
 pub enum AmvPreludeResult {
     Ok(AmvPrelude),
     Err(AmvError),

@@ -1,4 +1,6 @@
 // The register block: 16 bytes through which a panel's controller drives a reader, step by step.
+#![tactic(auto)]
+
 ghost use Rattle.std.specs.Prelude.{◌≡◌, ◌+◌, cond, ◌++◌, length, drop};
 ghost use Rattle.std.specs.Int.{w64};
 ghost use Rattle.std.proofs.Common.{to_z};
@@ -12,7 +14,7 @@ use error::AmvError;
 use seek::{SeekResult, seek_to_via_index};
 
 // The layout of the block: where each register stands, and its bits.
-#[derive(Drop)]
+#[derive(Clone, Copy)]
 pub struct Registers;
 
 impl Registers {
@@ -66,7 +68,7 @@ impl Registers {
 }
 
 // What a step answers: it is accepted, with the packet that its read gave or with none, or refused.
-#[derive(Drop)]
+#[derive(Clone, Copy)]
 pub enum RegisterResult {
     Packet(Packet),
     NoPacket,
@@ -74,14 +76,14 @@ pub enum RegisterResult {
 }
 
 // A step's answer, and the walker that the next step gets.
-#[derive(Drop)]
+#[derive(Clone, Copy)]
 pub struct RegisterStep {
     pub result: RegisterResult,
     pub walker: Walker,
 }
 
 // The call that a command makes: a seek with its stream, and with the bits of its request.
-#[derive(Drop)]
+#[derive(Clone, Copy)]
 pub enum Command {
     None,
     Read,
@@ -89,14 +91,14 @@ pub enum Command {
 }
 
 // A command, or a refusal of the step.
-#[derive(Drop)]
+#[derive(Clone, Copy)]
 pub enum CommandResult {
     Ok(Command),
     Err(AmvError),
 }
 
 // What a command has done. End is nothing to tell: the walker's mark says it.
-#[derive(Drop)]
+#[derive(Clone, Copy)]
 enum Done {
     Nothing,
     Gave(Packet),
@@ -105,7 +107,7 @@ enum Done {
 }
 
 // That, and the walker after it.
-#[derive(Drop)]
+#[derive(Clone, Copy)]
 struct Performed {
     done: Done,
     walker: Walker,
@@ -113,7 +115,7 @@ struct Performed {
 
 // What the block tells of what a command has done, in plain numbers: the stamp of the packet that its read gave, the stamp to which its seek
 // went, or the number of the refusal.
-#[derive(Drop)]
+#[derive(Clone, Copy)]
 pub enum Told {
     Nothing,
     Gave(u64),

@@ -1,4 +1,6 @@
 // A whole list of reads and seeks, run from a fresh walker.
+#![tactic(auto)]
+
 ghost use Rattle.std.specs.Prelude.{◌≡◌, ◌+◌, ◌≤◌, length};
 ghost use Rattle.fields.specs.Le.{put};
 ghost use Rattle.demuxer.specs.Packet.{ticks};
@@ -12,7 +14,7 @@ use seek::{SeekResult, seek_to_via_index};
 
 // An answer as six numbers. A packet's values: stream, start and length of its payload in the file, stamp, and duration or 0. A refusal's:
 // number and place. A seek's: the stamp. Every other value is 0.
-#[derive(Drop)]
+#[derive(Clone, Copy)]
 pub struct Row {
     // What the answer is: one of the constants below.
     pub said: u64,
@@ -62,7 +64,7 @@ impl Row {
 pub const READ: u8 = 0;
 
 // What a list of calls gives: all of them are run, or none.
-#[derive(Drop)]
+#[derive(Clone, Copy)]
 pub enum CallsResult {
     // All calls are run; the walker that the last one left.
     Done(Walker),
@@ -73,7 +75,7 @@ pub enum CallsResult {
 }
 
 // A call's answer as a row, and the walker that the next call gets.
-#[derive(Drop)]
+#[derive(Clone, Copy)]
 struct CallResult {
     row: Row,
     walker: Walker,

@@ -1,4 +1,6 @@
 // A whole list of writing calls, run from a fresh state.
+#![tactic(auto)]
+
 ghost use Rattle.std.specs.Prelude.{◌≡◌, ◌+◌, ◌≤◌, length};
 ghost use Rattle.error.specs.Refusal.{said};
 ghost use Rattle.fields.specs.Le.{put};
@@ -20,7 +22,7 @@ pub const PACKET: u8 = 1;
 pub const VERDICT_LEN: usize = 2;
 
 // What a list of writing calls gives: all of them are run, or none.
-#[derive(Drop)]
+#[derive(Clone, Copy)]
 pub enum WritesResult {
     // All calls are run; the writer that the last one left.
     Done(Writer),

@@ -1,1 +1,2 @@
 // Definitions and laws of calls that are answered by rows of numbers; it has no function.
+#![tactic(auto)]

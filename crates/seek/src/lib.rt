@@ -1,4 +1,6 @@
 // The indexed seek.
+#![tactic(auto)]
+
 ghost use Rattle.std.specs.Prelude.{◌≡◌, cond, ◌+◌, ◌≤◌, eqb, pos};
 ghost use Rattle.error.specs.Refusal.{said};
 ghost use Rattle.fields.specs.Capped.{u32_max};
@@ -15,21 +17,21 @@ use error::{AmvError, AmvResult};
 use table::{TableResult, ask_table};
 
 // What a seek answers: the stamp of the stream where the walker now stands, or a refusal.
-#[derive(Drop)]
+#[derive(Clone, Copy)]
 pub enum SeekResult {
     Ok(u64),
     Err(AmvError),
 }
 
 // A seek's answer, the stamp, and the walker that the next call gets.
-#[derive(Drop)]
+#[derive(Clone, Copy)]
 pub struct SeekOutcome {
     pub result: SeekResult,
     pub walker: Walker,
 }
 
 // The position of a record, if one was found.
-#[derive(Drop)]
+#[derive(Clone, Copy)]
 enum Found {
     At(Position),
     Nowhere,

@@ -1,4 +1,6 @@
 // A sound block decoded: IMA ADPCM, from the bytes of a block to signed 16-bit samples.
+#![tactic(auto)]
+
 mod rises;
 
 ghost use Rattle.std.specs.Prelude.{◌≡◌, ◌++◌, ◌*◌, ◌-◌, ◌≤◌, ◌<◌, length, take, drop};
@@ -13,7 +15,7 @@ use parse::preamble::{AMV_AUDIO_PREAMBLE_LEN, AmvAudioPreamble, AmvAudioPreamble
 use rises::RISES;
 
 // What the call answers: how many samples the block has, or a refusal.
-#[derive(Drop)]
+#[derive(Clone, Copy)]
 pub enum SamplesResult {
     Ok(u32),
     Err(AmvError),
@@ -21,7 +23,7 @@ pub enum SamplesResult {
 
 // What a decoder goes by. The level is kept 98,304 larger than it is: so it is never below 0, even before it is held, and it is within 16 bits
 // where its higher bits are 1. The step index is kept as the place where its rises begin.
-#[derive(Drop)]
+#[derive(Clone, Copy)]
 struct State {
     level: u32,
     row: usize,

@@ -1,4 +1,6 @@
 // The questions that every call asks of a table of records before it reads one.
+#![tactic(auto)]
+
 ghost use Rattle.std.specs.Prelude.{◌≡◌, max};
 ghost use Rattle.error.specs.Answer.{and_then};
 ghost use Rattle.error.specs.Refusal.{said};
@@ -10,7 +12,7 @@ use chunk_index::entry::ChunkIndexEntry;
 use error::{AmvError, AmvResult};
 
 // What a pass over a table answers: the most samples that a record of it has, or a refusal.
-#[derive(Drop)]
+#[derive(Clone, Copy)]
 pub enum TableResult {
     Ok(u64),
     Err(AmvError),

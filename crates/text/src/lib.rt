@@ -1,5 +1,7 @@
 // Words of text at an offset of a lent buffer: what the lines of a listing and of a page are made of. None of the functions refuses: a
 // caller lends the room that `requires` names.
+#![tactic(auto)]
+
 ghost use Rattle.std.specs.Prelude.{◌≡◌, [], ◌∷◌, ◌+◌, ◌≤◌, length};
 ghost use Rattle.fields.specs.Le.{put};
 ghost use Rattle.text.specs.Text.{decimal, kind, right, spaces};

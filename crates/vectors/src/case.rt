@@ -3,7 +3,7 @@ ghost use Rattle.std.specs.Prelude.{◌≡◌, ◌+◌, ◌<◌, ◌≤◌, leng
 ghost use Rattle.vectors.specs.Cases.{Parts, head_of};
 
 // The functions that a case may call, by the number in its first byte.
-#[derive(Drop)]
+#[derive(Clone, Copy)]
 pub struct Functions;
 
 impl Functions {
@@ -75,7 +75,7 @@ pub fn function_of(byte: u8) -> usize
 pub const HEAD_LEN: usize = 113;
 
 // Where the two byte strings of a case stand: from first to second, and from second to end.
-#[derive(Drop)]
+#[derive(Clone, Copy)]
 pub struct Case {
     pub first: usize,
     pub second: usize,
@@ -83,7 +83,7 @@ pub struct Case {
 }
 
 // A case of the input, or that the input ends before its end.
-#[derive(Drop)]
+#[derive(Clone, Copy)]
 pub enum CaseAt {
     Whole(Case),
     Short,

@@ -1,5 +1,7 @@
 // Replays stored calls and prints what the library answers. The stored output is what the Rust original answered, and for what it does
 // not have, what documents 01 and 02 fix.
+#![tactic(auto)]
+
 mod case;
 mod print;
 mod run;

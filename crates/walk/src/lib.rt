@@ -1,4 +1,6 @@
 // The walk over the chunks of a file, one step at a time: index, summary and check are folds of it.
+#![tactic(auto)]
+
 ghost use Rattle.std.specs.Prelude.{◌≡◌, ◌+◌, ◌≤◌, length};
 ghost use Rattle.fields.specs.File.{file_limit};
 ghost use Rattle.walk.specs.Walk.{kind_tag, is_frame, chunk_at, step_at};
@@ -9,7 +11,7 @@ use demuxer::head::{Head, head_at, sample_count};
 use demuxer::position::Position;
 
 // The two kinds of chunk that a walk goes past.
-#[derive(Drop)]
+#[derive(Clone, Copy)]
 pub enum Kind {
     Frame,
     Sound,
@@ -38,7 +40,7 @@ impl Kind {
 }
 
 // A chunk, as far as the file has it.
-#[derive(Drop)]
+#[derive(Clone, Copy)]
 pub struct ChunkAt {
     pub kind: Kind,
     // Of the payload, as the header says.
@@ -48,7 +50,7 @@ pub struct ChunkAt {
 }
 
 // What a walk meets at an offset; it stops at all but a chunk. One variant alone holds something, so that no two share their bytes.
-#[derive(Drop)]
+#[derive(Clone, Copy)]
 pub enum Step {
     // Fewer than 8 bytes are left.
     RanOut,

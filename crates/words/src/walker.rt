@@ -9,7 +9,7 @@ use demuxer::walker::{Trailer, Walker};
 pub const NOT_MET: u64 = 18446744073709551615;
 
 // The walker of seven words, if each is in its field's range.
-#[derive(Drop)]
+#[derive(Clone, Copy)]
 pub enum WalkerState {
     Legal(Walker),
     Illegal,

@@ -9,7 +9,7 @@ use muxer::{Settings, Writer};
 const LARGEST: u64 = fields::U32_MAX as u64;
 
 // The writer of nine words, if each is in its field's range.
-#[derive(Drop)]
+#[derive(Clone, Copy)]
 pub enum WriterState {
     Legal(Writer),
     Illegal,
