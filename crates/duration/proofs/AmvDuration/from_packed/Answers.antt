@@ -6,24 +6,10 @@ use Prim.Native.Nat.{◌%◌, ◌/◌}
 use Rattle.fields.specs.Le.{le_bytes}
 use Rattle.duration.specs.Duration.{unpacked_of}
 use native.Mathlib.Omega.{arith}
-use borrow.Author.Rules.{rules}
-use Rattle.duration.proofs.AmvDuration.from_packed.Statement.{statement}
-use Rattle.duration.proofs.AmvDuration.from_packed.Tie as tie
+use Rattle.duration.proofs.AmvDuration.from_packed.Goals as goal
 
-cast-t3 : tie.Need-overflow-cast-t3
-cast-t3 c = search rules
-
-cast-t6 : tie.Need-overflow-cast-t6
-cast-t6 c = search rules
-
-cast-t9 : tie.Need-overflow-cast-t9
-cast-t9 c = search rules
-
-returns : tie.Need-returns
+pub returns : goal.returns
 unfolding unpacked_of le_bytes
 returns c = let p = c.args.packed in
     let h : p / 65536 % 256 ≡ p / 256 / 256 % 256 = omega arith in
     λ i. record { seconds = p % 256; minutes = p / 256 % 256; hours = h i }
-
-pub from-packed-spec : {M : Type 1} → statement M
-from-packed-spec = tie.close (tie.spec cast-t3 cast-t6 cast-t9 returns)
