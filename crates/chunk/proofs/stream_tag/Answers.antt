@@ -1,0 +1,10 @@
+-- `chunk::stream_tag` meets its contract. The test is that of `stream_tag`.
+-- Assumes nothing.
+use borrow.Author.Tests.{eq-eqb, ne_eqb}
+use Rattle.chunk.proofs.stream_tag.Goals as goal
+
+pub returns-then-stream-eq0 : goal.returns-then-stream-eq0
+returns-then-stream-eq0 c = rw (eq-eqb _ _ c.if-stream-eq0.true)
+
+pub returns : goal.returns
+returns c = rw (ne_eqb _ _ c.if-stream-eq0.false)
