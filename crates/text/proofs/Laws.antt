@@ -4,7 +4,7 @@ use mathlib.Core.Path.{◌≡◌, sym, ap, ◌∙◌}
 use mathlib.Core.List.{List, [], ◌∷◌, ◌++◌}
 use Prim.Native.Nat.{ℕ, ◌+◌, ◌-◌, ◌≤◌, ◌<◌}
 use native.Mathlib.Omega.{arith}
-use lib.ListN.{length, set, take, drop, replicate, length-append, length-replicate, replicate-append-replicate}
+use lib.ListN.{length, set, take, drop, length-append, length-replicate, replicate-append-replicate}
 use lib.Seq.{take_at, drop_at, length-take-le}
 use Rattle.fields.specs.Le.{put}
 use Rattle.fields.proofs.Laws.{put_one, put-put, put-over, length-put}
