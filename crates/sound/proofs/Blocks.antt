@@ -20,7 +20,7 @@ use Rattle.fields.specs.Le.{le, Bytes}
 use Rattle.fields.proofs.Laws.{le-lt, le_split, le_bytes-le}
 use Rattle.parse.specs.Preamble.{preamble_of, state_byte}
 use Rattle.parse.specs.declared.preamble.AmvAudioPreamble.{AmvAudioPreamble}
-use Rattle.sound.specs.Sound.{Decoder, Decoding, block_questions, decoded_from, decode_nibbles, decode_of, nibbles, sample_questions, samples_of, start_of}
+use Rattle.sound.specs.Sound.{Decoder, Decoding, block_questions, decoded_from, decode_nibble, decode_nibbles, decode_of, nibbles, sample_questions, samples_of, start_of}
 use Rattle.sound.specs.Sentences.{count_in, index_in, level_in, after}
 
 -- a question that is passed was answered with yes, and so were those after it
@@ -187,7 +187,7 @@ length-nibbles (b ∷ bs) = let ih = length-nibbles bs in omega arith
 pub length_decoded : (d : Decoder) (ns : List ℕ) → length (decode_nibbles d ns) ≡ length ns
 unfolding decode_nibbles
 length_decoded d [] = refl
-length_decoded d (n ∷ ns) = ap suc (length_decoded _ ns)
+length_decoded d (n ∷ ns) = ap suc (length_decoded (decode_nibble n d) ns)
 
 -- a block that was accepted has as many nibbles as it counts samples
 pub nibbles-enough : (block : List ℕ) (n : ℕ) → n ≤ 2 * (length block - 8) → length (take n (nibbles (drop 8 block))) ≡ n

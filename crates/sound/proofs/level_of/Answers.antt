@@ -10,8 +10,7 @@ use mir.Val.{SFits}
 use mir.Facts.{sfits_widen}
 use Rattle.sound.specs.Steps.{Level, level_of}
 use Rattle.sound.proofs.Levels.{standing, stands, standing_least, standing_most, widened, lifted_is, lifted_fits, lifted_back}
-use Rattle.sound.proofs.level_of.Statement.{statement}
-use Rattle.sound.proofs.level_of.Tie as tie
+use Rattle.sound.proofs.level_of.Goals as goal
 
 module _ (z : ℤ) (f : SFits w16 z) where
   kept-is : level_of (standing 98304 z) ≡ z
@@ -20,24 +19,22 @@ module _ (z : ℤ) (f : SFits w16 z) where
   kept-level : Level (standing 98304 z)
   kept-level = record { least = omega (arith, standing_least 98304 z f.sfits); most = omega (arith, standing_most 98304 z f.sfits) }
 
-cast-result : tie.Need-overflow-cast-result
-cast-result c = rw (widened 98304 (omega arith) (omega arith) _ c.ranges.predictor) (sfits_widen tt c.ranges.predictor)
+pub overflow_cast-result : goal.overflow_cast-result
+overflow_cast-result c = rw (widened 98304 (omega arith) (omega arith) _ c.ranges.predictor) (sfits_widen tt c.ranges.predictor)
 
-add-result : tie.Need-overflow-add-result
-add-result c =
+pub overflow_add-result : goal.overflow_add-result
+overflow_add-result c =
     let z = c.args.predictor in
     rw (lifted_is 98304 (omega arith) (omega arith) z c.ranges.predictor) (lifted_fits 98304 (omega arith) (omega arith) z c.ranges.predictor)
 
-cast-result-2 : tie.Need-overflow-cast-result-2
-cast-result-2 c =
+pub overflow_cast-result-2 : goal.overflow_cast-result-2
+overflow_cast-result-2 c =
     let z = c.args.predictor in
     rw (lifted_back 98304 (omega arith) (omega arith) z c.ranges.predictor)
     (tt, record { fits = omega (arith, (kept-level z c.ranges.predictor).most) })
 
-returns : tie.Need-returns
+pub returns : goal.returns
 returns c =
     let z = c.args.predictor in
-    rw (lifted_back 98304 (omega arith) (omega arith) z c.ranges.predictor) (kept-is z c.ranges.predictor, kept-level z c.ranges.predictor)
-
-pub level-of-spec : {M : Type 1} → statement M
-level-of-spec = tie.close (tie.spec cast-result add-result cast-result-2 returns)
+    rw (lifted_back 98304 (omega arith) (omega arith) z c.ranges.predictor)
+    (record { result_value = kept-is z c.ranges.predictor; level = kept-level z c.ranges.predictor })

@@ -8,16 +8,14 @@ use mathlib.Core.Bool.{true, ◌&&◌}
 use mathlib.Core.List.{List}
 use lib.Dec.{leb, ltb}
 use lib.ListN.{get_or}
-use borrow.Author.Rules.{rules}
 use borrow.Author.Tests.{le-ltb, leb-true, ltb-true}
 use Rattle.error.proofs.Answers.{both}
 use Rattle.sound.specs.Sound.{decode_nibble, held_level, level_after, moved_by, rise, steps}
-use Rattle.sound.specs.Steps.{Legal, Level, Rises, Row, RowMoves, decoder_of, held_row, inside, level_of, row_move}
+use Rattle.sound.specs.Steps.{Legal, Level, Rises, Row, decoder_of, held_row, inside, level_of, row_move}
 use Rattle.sound.specs.declared.State.{State}
 use Rattle.sound.proofs.Levels.{held-sub, within-inside}
-use Rattle.sound.proofs.Rows.{index-after, row-held, row_move-whole}
-use Rattle.sound.proofs.decode_nibble.Statement.{statement}
-use Rattle.sound.proofs.decode_nibble.Tie as tie
+use Rattle.sound.proofs.Rows.{index-after, row-held}
+use Rattle.sound.proofs.decode_nibble.Goals as goal
 
 -- the entry that is read
 entry-is : (table : List ℕ) (row nibble : ℕ) → Rises table → Row row
@@ -56,12 +54,6 @@ module _
       record { level = level-legal; row = rw row_is (row-held s.row (nibble % 8) l.row (omega arith)) },
     )
 
--- what is added to a row is small
-move-small : (table : List ℕ) (nibble : ℕ) → RowMoves table → get_or table (nibble % 8) 0 ≤ 72
-move-small table nibble m =
-    let e = m.rule (nibble % 8) (omega arith) in
-    omega (arith, (row_move-whole (nibble % 8) (omega arith)).1)
-
 -- where both are inside, they are held as they are
 module _ (level moved : ℕ) (is : inside level moved ≡ true) where
   legal-level : Level level
@@ -83,99 +75,34 @@ module _ (level moved : ℕ) (is : inside level moved ≡ true) where
   row_kept : moved - 8 ≡ held_row moved
   row_kept = rw (le-ltb moved 8 row-least) (rw row-tests.1 refl)
 
-add-moved-level : tie.Need-overflow-add-moved-level
-add-moved-level c = search rules
-
-mul-moved-level : tie.Need-overflow-mul-moved-level
-mul-moved-level c = search rules
-
-shared-slice-read-moved-level : tie.Need-shared-slice-read-moved-level
-shared-slice-read-moved-level c = search rules
-
-cast-moved-level : tie.Need-overflow-cast-moved-level
-cast-moved-level c =
-    let s = c.before.before.before in
-    let small = (c.shared-slice-known3.given (s.args.state.row + s.args.nibble % 8)).fits in
-    record { fits = omega arith }
-
-moved-level-requires : tie.Need-moved-level-requires
-moved-level-requires c κs =
-    let s = c.before.before.before in
-    (s.requires.0.level, (c.shared-slice-known3.given (s.args.state.row + s.args.nibble % 8)).fits)
-
-shared-slice-read-moved : tie.Need-shared-slice-read-moved
-shared-slice-read-moved c = search rules
-
-cast-moved : tie.Need-overflow-cast-moved
-cast-moved c =
-    let s = c.before.before.before.before.before in
-    record { fits = omega (arith, move-small s.args.moves.now s.args.nibble s.requires.1.1) }
-
-add-moved : tie.Need-overflow-add-moved
-add-moved c =
-    let s = c.before.before.before.before.before in
-    record { fits = omega (arith, move-small s.args.moves.now s.args.nibble s.requires.1.1) }
-
-is-inside-requires : tie.Need-is-inside-requires
-is-inside-requires c κs = search rules
-
-sub-t17 : tie.Need-overflow-sub-t17
-sub-t17 c =
-    let a = c.before.before.before.before.before.before.before.args in
-    row-least c.before.before.before.moved-level.result (a.state.row + get_or a.moves.now (a.nibble % 8) 0)
-    (sym c.before.is-inside.ensures ∙ c.if1.true)
-
-returns : tie.Need-returns
-returns c =
-    let s = c.before.before.before.before.before.before.before in
-    let a = s.args in
-    let is = sym c.before.is-inside.ensures ∙ c.if1.true in
-    let level = c.before.before.before.moved-level.result in
+pub returns-then-is_inside : goal.returns-then-is_inside
+returns-then-is_inside c =
+    let a = c.args in
+    let q = c.requires in
+    let is = sym c.is_inside.ensures ∙ c.if-is_inside.true in
+    let level = c.moved_level-level.result in
     let by = get_or a.rises.now (a.state.row + a.nibble % 8) 0 in
     let move = get_or a.moves.now (a.nibble % 8) 0 in
-    let moved = c.before.before.before.moved-level.ensures in
-    let risen = entry-is a.rises.now a.state.row a.nibble s.requires.1.0 s.requires.0.row in
-    let shift = s.requires.1.1.rule (a.nibble % 8) (omega arith) in
+    let moved = c.moved_level-level.ensures in
+    let risen = entry-is a.rises.now a.state.row a.nibble q.rises q.legal.row in
+    let shift = q.row_moves.rule (a.nibble % 8) (omega arith) in
     let level-legal = legal-level level (a.state.row + move) is in
     let is-level = level-kept level (a.state.row + move) is in
     let is_row = row_kept level (a.state.row + move) is in
-    stepped a.state a.nibble s.requires.0 level move by level (a.state.row + move - 8) moved risen shift is-level level-legal is_row
+    let s = stepped a.state a.nibble q.legal level move by level (a.state.row + move - 8) moved risen shift is-level level-legal is_row in
+    record { result_value = s.0; legal_2 = s.1 }
 
-held-level-requires : tie.Need-held-level-requires
-held-level-requires c κs = search rules
-
-held-row-requires : tie.Need-held-row-requires
-held-row-requires c κs = search rules
-
-returns-2 : tie.Need-returns-2
-returns-2 c =
-    let s = c.before.before.before.before.before.before.before.before.before in
-    let a = s.args in
-    let level = c.before.before.before.before.before.moved-level.result in
+pub returns : goal.returns
+returns c =
+    let a = c.args in
+    let q = c.requires in
+    let level = c.moved_level-level.result in
     let by = get_or a.rises.now (a.state.row + a.nibble % 8) 0 in
     let move = get_or a.moves.now (a.nibble % 8) 0 in
-    let moved = c.before.before.before.before.before.moved-level.ensures in
-    let risen = entry-is a.rises.now a.state.row a.nibble s.requires.1.0 s.requires.0.row in
-    let shift = s.requires.1.1.rule (a.nibble % 8) (omega arith) in
-    let h = c.before.held-level in
-    let r = c.held-row in
-    stepped a.state a.nibble s.requires.0 level move by h.result r.result moved risen shift h.ensures.0 h.ensures.1 r.ensures
-
-pub decode-nibble-spec : {M : Type 1} → statement M
-decode-nibble-spec =
-    tie.close
-    (tie.spec
-    add-moved-level
-    mul-moved-level
-    shared-slice-read-moved-level
-    cast-moved-level
-    moved-level-requires
-    shared-slice-read-moved
-    cast-moved
-    add-moved
-    is-inside-requires
-    sub-t17
-    returns
-    held-level-requires
-    held-row-requires
-    returns-2)
+    let moved = c.moved_level-level.ensures in
+    let risen = entry-is a.rises.now a.state.row a.nibble q.rises q.legal.row in
+    let shift = q.row_moves.rule (a.nibble % 8) (omega arith) in
+    let h = c.held_level in
+    let r = c.held_row in
+    let s = stepped a.state a.nibble q.legal level move by h.result r.result moved risen shift h.ensures.result_value h.ensures.level r.ensures in
+    record { result_value = s.0; legal_2 = s.1 }

@@ -9,11 +9,9 @@ use mir.Syntax.{w16, w32}
 use mir.Val.{SFits, to_z, of_z}
 use mir.Facts.{sfits_widen}
 use mir.ValLaws.{to_z_pos, to_z-of_z}
-use borrow.Author.Rules.{rules}
 use Rattle.sound.specs.Steps.{Level, level_of}
 use Rattle.sound.proofs.Levels.{sample-fits}
-use Rattle.sound.proofs.sample_of.Statement.{statement}
-use Rattle.sound.proofs.sample_of.Tie as tie
+use Rattle.sound.proofs.sample_of.Goals as goal
 
 module _ (n : ℕ) (l : Level n) where
   wide_fits : SFits w32 (level_of n)
@@ -26,19 +24,13 @@ module _ (n : ℕ) (l : Level n) where
   read_back : to_z w32 (of_z w32 (to_z w32 n -ℤ pos 98304)) ≡ level_of n
   read_back = ap (λ (z : ℤ). to_z w32 (of_z w32 z)) less ∙ to_z-of_z w32 (level_of n) wide_fits
 
-cast-result : tie.Need-overflow-cast-result
-cast-result c = search rules
+pub overflow_sub-result : goal.overflow_sub-result
+overflow_sub-result c = rw (less c.args.level c.requires) (wide_fits c.args.level c.requires)
 
-sub-result : tie.Need-overflow-sub-result
-sub-result c = rw (less c.args.level c.requires) (wide_fits c.args.level c.requires)
+pub overflow_cast-result-2 : goal.overflow_cast-result-2
+overflow_cast-result-2 c = rw (read_back c.args.level c.requires) (sample-fits c.args.level c.requires)
 
-cast-result-2 : tie.Need-overflow-cast-result-2
-cast-result-2 c = rw (read_back c.args.level c.requires) (sample-fits c.args.level c.requires)
-
-returns : tie.Need-returns
+pub returns : goal.returns
 returns c =
     let n = c.args.level in
     ap (λ (z : ℤ). to_z w16 (of_z w16 z)) (read_back n c.requires) ∙ to_z-of_z w16 (level_of n) (sample-fits n c.requires)
-
-pub sample-of-spec : {M : Type 1} → statement M
-sample-of-spec = tie.close (tie.spec cast-result sub-result cast-result-2 returns)

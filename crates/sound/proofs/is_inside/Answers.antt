@@ -8,8 +8,7 @@ use borrow.Author.Tests.{lt-ltb, le-ltb, le-leb, lt-leb}
 use lib.Dec.{leb, ltb}
 use Rattle.sound.specs.Steps.{inside}
 use Rattle.sound.proofs.Levels.{by_order}
-use Rattle.sound.proofs.is_inside.Statement.{statement}
-use Rattle.sound.proofs.is_inside.Tie as tie
+use Rattle.sound.proofs.is_inside.Goals as goal
 
 level_out : (level moved : ℕ) → (level / 65536 ≡ 1 → ⊥) → false ≡ inside level moved
 level_out level moved h =
@@ -19,18 +18,15 @@ level_out level moved h =
 level_in : (level : ℕ) → level / 65536 ≡ 1 → (leb 65536 level && ltb level 131072) ≡ true
 level_in level e = rw (le-leb 65536 level (omega arith), lt-ltb level 131072 (omega arith)) refl
 
-returns : tie.Need-returns
-returns c = level_out c.before.args.level c.before.args.moved c.if1.true
+pub returns-then-high-ne1 : goal.returns-then-high-ne1
+returns-then-high-ne1 c = level_out c.args.level c.args.moved c.if-high-ne1.true
 
-returns-2 : tie.Need-returns-2
-returns-2 c =
-    let a = c.before.before.args in
-    rw (level_in a.level c.before.if1.false, lt-leb 8 a.moved c.if2.true) refl
+pub returns-then-moved-lt-ROW_LEN : goal.returns-then-moved-lt-ROW_LEN
+returns-then-moved-lt-ROW_LEN c =
+    let a = c.args in
+    rw (level_in a.level c.if-high-ne1.false, lt-leb 8 a.moved c.if-moved-lt-ROW_LEN.true) refl
 
-returns-3 : tie.Need-returns-3
-returns-3 c =
-    let a = c.before.before.args in
-    rw (level_in a.level c.before.if1.false, le-leb 8 a.moved c.if2.false) refl
-
-pub is-inside-spec : {M : Type 1} → statement M
-is-inside-spec = tie.close (tie.spec returns returns-2 returns-3)
+pub returns : goal.returns
+returns c =
+    let a = c.args in
+    rw (level_in a.level c.if-high-ne1.false, le-leb 8 a.moved c.if-moved-lt-ROW_LEN.false) refl
