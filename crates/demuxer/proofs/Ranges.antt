@@ -14,7 +14,7 @@ module _ (p : Position) where
       rw (
         le-leb p.cursor count_limit r.cursor_in,
         le-leb p.frames.0 count_limit r.frames_in,
-        le-leb p.samples.0 count_limit r.samples_in_lem,
+        le-leb p.samples.0 count_limit r.samples_in,
         le-leb p.blocks.0 count_limit r.blocks_in,
       )
 
@@ -29,7 +29,7 @@ module _ (p : Position) where
           record {
             cursor_in = leb-true p.cursor count_limit f;
             frames_in = leb-true p.frames.0 count_limit g;
-            samples_in_lem = leb-true p.samples.0 count_limit h;
+            samples_in = leb-true p.samples.0 count_limit h;
             blocks_in = leb-true p.blocks.0 count_limit k;
           }
       go true true true false f g h k t = impossible cc

@@ -28,7 +28,6 @@ use Rattle.demuxer.specs.Packet.{packet_duration, ticks}
 use Rattle.demuxer.specs.Position.{InRange}
 use Rattle.demuxer.specs.Sentences.{Gives, moved, AtCursor, headed, as_answer, ReadSentences}
 use Rattle.demuxer.specs.declared.head.Head.{Head}
-use Rattle.demuxer.specs.declared.head.Head.TheVariants as head
 use Rattle.demuxer.specs.declared.walker.Walker.{Walker}
 use Rattle.demuxer.proofs.Bodies.{count-is}
 use Rattle.demuxer.proofs.Heads.{head_out}

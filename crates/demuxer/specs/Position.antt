@@ -21,7 +21,7 @@ in_range p =
 pub record InRange (p : Position) : Type 0 where
   pub cursor_in : p.cursor ≤ count_limit
   pub frames_in : p.frames.0 ≤ count_limit
-  pub samples_in_lem : p.samples.0 ≤ count_limit
+  pub samples_in : p.samples.0 ≤ count_limit
   pub blocks_in : p.blocks.0 ≤ count_limit
 
 -- "cursor moves 8 + length. Frames: .. stamp + 1."
