@@ -43,7 +43,7 @@ walked_range p w l =
     record {
       cursor_in = omega arith;
       frames_in = omega (arith, w.chunks_le);
-      samples_in_lem = omega (arith, w.samples_le);
+      samples_in = omega (arith, w.samples_le);
       blocks_in = omega (arith, w.chunks_le);
     }
 

@@ -2,8 +2,6 @@
 -- file's end and fuel for the bytes that are left is enough. Assumes nothing.
 use mathlib.Core.Path.{◌≡◌, refl, sym, ap, ◌∙◌, subst}
 use mathlib.Core.List.{List}
-use mathlib.Core.Logic.{◌⊎◌, ⊎_elim}
-use denote.Enum.Declared.{declared, tag_of}
 use Prim.Native.Nat.{ℕ, zero, suc, ◌+◌, ◌-◌, ◌≤◌, ◌<◌, min}
 use native.Mathlib.Decide.{dec_le}
 use native.Mathlib.Nat.{lt_of_not-le}
@@ -27,7 +25,6 @@ use Rattle.walk.specs.declared.Kind.TheVariants.{Frame, Sound}
 use Rattle.walk.specs.declared.ChunkAt.{ChunkAt}
 use Rattle.walk.specs.declared.Step.{Step}
 use Rattle.walk.specs.declared.Step.TheVariants as step
-use Rattle.walk.specs.contracts.Step.{enum}
 
 -- where there is one, its 8 bytes are
 pub head_there : (file : List ℕ) (at : ℕ) → (head_at file at ≡ head.Short → ⊥) → at + 8 ≤ length file
@@ -164,15 +161,14 @@ module _ (file : List ℕ) (at : ℕ) (c : ChunkAt) (g : Goes file at c) where
 
 -- what is no chunk is a stop
 pub stopped : (file : List ℕ) (at : ℕ) (x : Step) → step_at file at ≡ x
-    → (tag_of (declared enum) x ≡ 0) ⊎ ((tag_of (declared enum) x ≡ 1) ⊎ (tag_of (declared enum) x ≡ 2)) → (s : Stop) × (walk file at ≡ stop s)
+    → ((c : ChunkAt) → x ≡ step.Chunk c → ⊥) → (s : Stop) × (walk file at ≡ stop s)
 stopped file at x e k = by x k (step_means file at x e)
   where
-    by : (x : Step) → (tag_of (declared enum) x ≡ 0) ⊎ ((tag_of (declared enum) x ≡ 1) ⊎ (tag_of (declared enum) x ≡ 2)) → Means file at x
-        → (s : Stop) × (walk file at ≡ stop s)
+    by : (x : Step) → ((c : ChunkAt) → x ≡ step.Chunk c → ⊥) → Means file at x → (s : Stop) × (walk file at ≡ stop s)
     by step.RanOut k m = (ran_out, m)
     by step.Trailer k m = (trailer (length file - (at + 8)), m.is)
     by step.UnknownTag k m = (unknown_tag, m)
-    by (step.Chunk c) k m = absurd (⊎_elim (λ e. omega arith) (λ r. ⊎_elim (λ e. omega arith) (λ e. omega arith) r) k)
+    by (step.Chunk c) k m = absurd (k c refl)
 
 -- and the position after a chunk, as the code counts it
 pub past_is : (file : List ℕ) (p : Position) (c : ChunkAt) → Goes file p.cursor c
