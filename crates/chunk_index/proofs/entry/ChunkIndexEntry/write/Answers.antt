@@ -1,0 +1,24 @@
+-- `chunk_index::entry::ChunkIndexEntry::write` meets its contract. Five fields are stored one after another, which together are the record's bytes
+-- (`entry_stored`); the three 32-bit ones hold their numbers by the `requires`.
+-- Assumes nothing.
+use Prim.Native.Nat.{ℕ, ◌+◌}
+use mathlib.Core.List.{List}
+use mathlib.Core.Path.{ap, ◌∙◌}
+use Rattle.fields.specs.Le.{put_le}
+use Rattle.chunk_index.proofs.Entries.{entry_stored}
+use Rattle.chunk_index.proofs.entry.ChunkIndexEntry.write.Goals as goal
+
+pub returns : goal.returns
+returns c =
+    let fifth = c in
+    let fourth = fifth in
+    let third = fourth in
+    let second = third in
+    let first = second in
+    let start = first in
+    let a = start.args in
+    let e = second.write_u32_le-2.ensures ∙ ap (λ (l : List ℕ). put_le 4 l (a.at + 4) a.self.position.cursor) first.write_u32_le.ensures in
+    let e = third.write_u32_le-3.ensures ∙ ap (λ (l : List ℕ). put_le 4 l (a.at + 8) a.self.position.frames.0) e in
+    let e = fourth.write_u32_le-4.ensures ∙ ap (λ (l : List ℕ). put_le 4 l (a.at + 12) a.self.position.blocks.0) e in
+    let e = fifth.write_u64_le.ensures ∙ ap (λ (l : List ℕ). put_le 8 l (a.at + 16) a.self.position.samples.0) e in
+    e ∙ entry_stored a.table.now a.at a.self start.requires.entry_len_in_bounds
