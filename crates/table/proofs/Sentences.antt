@@ -25,7 +25,7 @@ module _ (numbers : List ℕ) where
       → RefusedBy numbers (ask_each test number place es)
   unfolding ask_each
   each_by test number n place [] = tt
-  each_by test number n place (e ∷ es) = asked_by numbers (test e) number place _ n (each_by test number n _ es)
+  each_by test number n place (e ∷ es) = asked_by numbers (test e) number place _ n (each_by test number n (place + entry_len) es)
 
   pub table_by : one_of numbers 41 ≡ true → one_of numbers 43 ≡ true → (table : List ℕ) → RefusedBy numbers (table_questions table)
   table_by a b table =
