@@ -1,5 +1,5 @@
 -- `seek::least_stamp` meets its contract. A negative request is reached by every stamp, so the least is 0; any other request is its own natural number.
--- The code compares what its bits say, which is the request (`back`).
+-- The code compares what its bits say, which is the request (`to_z-of_z`).
 -- Assumes nothing.
 use mathlib.Core.Path.{◌≡◌, refl}
 use mathlib.Core.Bool.{true, false}
@@ -9,12 +9,11 @@ use lib.IntN.{ℤ, pos, negsuc, nat_abs}
 use lib.Signed.{lt_z, non_neg}
 use borrow.Author.Tests.{ltb-true}
 use mir.Syntax.{w64}
-use mir.Val.{Fits, SFits, to_z, of_z}
+use mir.Val.{Fits, SFits}
 use mir.ValLaws.{to_z-of_z}
 use Rattle.fields.proofs.Impossible.{impossible}
 use Rattle.seek.specs.Steps.{least}
-use Rattle.seek.proofs.least_stamp.Statement.{statement}
-use Rattle.seek.proofs.least_stamp.Tie as tie
+use Rattle.seek.proofs.least_stamp.Goals as goal
 
 below : (z : ℤ) → lt_z z (pos 0) ≡ true → 0 ≡ least z
 unfolding least
@@ -30,18 +29,11 @@ unfolding least
 same (pos n) e = refl
 same (negsuc n) e = impossible cc
 
--- a request is what its bits say
-back : (c : tie.Start) → to_z w64 (of_z w64 c.args.request) ≡ c.args.request
-back c = to_z-of_z w64 c.args.request c.ranges.request
+pub returns-then-request-lt0 : goal.returns-then-request-lt0
+returns-then-request-lt0 c = below c.args.request (rw (to_z-of_z w64 c.args.request c.ranges.request) at c.if-request-lt0.true)
 
-returns : tie.Need-returns
-returns c = below c.before.args.request (rw (back c.before) at c.if1.true)
+pub overflow_cast-result : goal.overflow_cast-result
+overflow_cast-result c = rw (to_z-of_z w64 c.args.request c.ranges.request) (above c.args.request c.ranges.request (rw (to_z-of_z w64 c.args.request c.ranges.request) at c.if-request-lt0.false))
 
-cast-result : tie.Need-overflow-cast-result
-cast-result c = rw (back c.before) (above c.before.args.request c.before.ranges.request (rw (back c.before) at c.if1.false))
-
-returns-2 : tie.Need-returns-2
-returns-2 c = rw (back c.before) (same c.before.args.request (rw (back c.before) at c.if1.false))
-
-pub least-stamp-spec : {M : Type 1} → statement M
-least-stamp-spec = tie.close (tie.spec returns cast-result returns-2)
+pub returns : goal.returns
+returns c = rw (to_z-of_z w64 c.args.request c.ranges.request) (same c.args.request (rw (to_z-of_z w64 c.args.request c.ranges.request) at c.if-request-lt0.false))
