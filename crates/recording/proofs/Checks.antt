@@ -11,7 +11,6 @@ use lib.ListN.{length, take, drop, length-append, length-take, take-append-drop,
 use lib.Seq.{take_at, drop-drop}
 use Rattle.chunk.specs.Chunk.{trailer_bytes}
 use Rattle.chunk.specs.Interleave.{interleave}
-use Rattle.chunk.specs.declared.ChunkKind.TheVariants.{Video, Audio}
 use Rattle.error.specs.Answer.{Answer, accepted, and_then}
 use Rattle.error.proofs.Answers.{never, then-accepted, ask-passed}
 use Rattle.fields.specs.File.{file_limit, within_limit}

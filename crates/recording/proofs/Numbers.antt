@@ -2,7 +2,7 @@
 use mathlib.Core.Path.{◌≡◌, refl, ap, ◌∙◌}
 use Prim.Native.Nat.{ℕ, ◌≤◌}
 use mathlib.Core.Bool.{Bool, true, false}
-use mathlib.Core.List.{List}
+use mathlib.Core.List.{List, [], ◌∷◌}
 use native.Mathlib.Omega.{arith}
 use lib.IntN.{ℤ}
 use Rattle.error.specs.Answer.{Answer, accepted, refused, ask, and_then}
@@ -33,7 +33,7 @@ pub then-numbered : {A B : Type 0} (a : Answer A) (rest : A → Answer B) → Nu
 then-numbered (accepted x) rest k h = h x
 then-numbered (refused r) rest k h = k
 
--- a list of numbers without 0; which list it is, the call's sentence says
+-- a list of numbers without 0; that it is this list, the call's sentence says
 listed : {A : Type 0} (numbers : List ℕ) (a : Answer A) → RefusedBy numbers a → one_of numbers 0 ≡ false → Numbered a
 listed numbers (accepted x) h n = tt
 listed numbers (refused r) h n = λ e. clash h (ap (one_of numbers) e ∙ n)
@@ -49,17 +49,17 @@ as_read End n = tt
 as_read (read.refused r) n = n
 
 pub read-numbered : (file : List ℕ) (w : Walker) → ReadNumbered (read_of file w).answer
-read-numbered file w = as_read (read_of file w).answer (listed _ (as_answer (read_of file w).answer) (read_sentences.numbers file w) refl)
+read-numbered file w = as_read (read_of file w).answer (listed (10 ∷ 32 ∷ 31 ∷ []) (as_answer (read_of file w).answer) (read_sentences.numbers file w) refl)
 
 pub seek-numbered : (table : List ℕ) (w : Walker) (stream : ℕ) (request : ℤ) → Numbered (seek_of table w stream request).answer
 seek-numbered table w stream request =
-    listed _ (seek_of table w stream request).answer (seek_sentences.numbers table w stream request) refl
+    listed (42 ∷ 41 ∷ 43 ∷ 32 ∷ []) (seek_of table w stream request).answer (seek_sentences.numbers table w stream request) refl
 
 pub step-numbered : (w : Writer) (buf : List ℕ) (c : WriteCall) → Numbered (write_step w buf c).answer
 unfolding write_step
 step-numbered w buf header =
-    listed _ (header_call w buf).answer (write_sentences.header.numbered (record { writer = w; buffer = buf })) refl
+    listed (50 ∷ 55 ∷ 56 ∷ 54 ∷ []) (header_call w buf).answer (write_sentences.header.numbered (record { writer = w; buffer = buf })) refl
 step-numbered w buf (packet payload stream) =
-    listed _ (packet_call w payload stream buf).answer ((write_sentences.packet payload stream).numbered (record { writer = w; buffer = buf })) refl
+    listed (51 ∷ 55 ∷ 56 ∷ 52 ∷ 53 ∷ 54 ∷ []) (packet_call w payload stream buf).answer ((write_sentences.packet payload stream).numbered (record { writer = w; buffer = buf })) refl
 step-numbered w buf trailer =
-    listed _ (trailer_call w buf).answer (write_sentences.trailer.numbered (record { writer = w; buffer = buf })) refl
+    listed (51 ∷ 55 ∷ 56 ∷ 54 ∷ []) (trailer_call w buf).answer (write_sentences.trailer.numbered (record { writer = w; buffer = buf })) refl

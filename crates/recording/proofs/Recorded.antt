@@ -177,7 +177,7 @@ beyond-range e h =
     record {
       cursor_in = omega arith;
       frames_in = counted_in (eqb e.tag video_tag) e.position.frames.0 (omega (arith, w.chunks_le));
-      samples_in_lem = let f = few-samples e h in omega arith;
+      samples_in = let f = few-samples e h in omega arith;
       blocks_in = counted_in (eqb e.tag audio_tag) e.position.blocks.0 (omega (arith, w.chunks_le));
     }
 

@@ -10,6 +10,7 @@ use borrow.Author.Tests.{ne_eqb}
 use lib.Dec.{ltb}
 use lib.ListN.{length, length-append, length-take}
 use lib.Seq.{take-append-le, drop-append-le}
+use Rattle.demuxer.specs.Head.{count_of}
 use Rattle.fields.proofs.Impossible.{impossible}
 use Rattle.prelude.specs.Layout.{prelude_len}
 use Rattle.chunk.specs.Chunk.{trailer_bytes, payload_limit}
@@ -101,9 +102,9 @@ sent-drained : (frames samples : ℕ) (cs : List Chunk) → sent_in (drain_from 
 unfolding sent_in drain_from
 sent-drained frames samples [] = refl
 sent-drained frames samples (chunk_of Frame payload ∷ cs) =
-    ap (λ (l : List Sent). record { stream = 0; payload = payload } ∷ l) (sent-drained _ _ cs)
+    ap (λ (l : List Sent). record { stream = 0; payload = payload } ∷ l) (sent-drained (frames + 1) samples cs)
 sent-drained frames samples (chunk_of Sound payload ∷ cs) =
-    ap (λ (l : List Sent). record { stream = 1; payload = payload } ∷ l) (sent-drained _ _ cs)
+    ap (λ (l : List Sent). record { stream = 1; payload = payload } ∷ l) (sent-drained frames (samples + count_of payload) cs)
 
 -- ---- the file by the writer's state
 
