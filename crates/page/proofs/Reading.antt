@@ -14,7 +14,7 @@ use Rattle.chunk.specs.Chunk.{video_tag, audio_tag}
 use Rattle.demuxer.specs.Position.{count_limit}
 use Rattle.chunk_index.specs.declared.entry.ChunkIndexEntry.{ChunkIndexEntry}
 use Rattle.table.specs.Table.{good_entry}
-use Rattle.text.specs.Text.{digits, decimal, kind, spaces, right}
+use Rattle.text.specs.Text.{decimal, kind, spaces, right}
 use Rattle.text.proofs.Digits.{worth, Digits, digits-digits, decimal-worth, decimal_head, decimal-zero}
 use Rattle.text.proofs.Laws.{length-right}
 use Rattle.page.specs.Page.{columns, page_line, page_lines}
