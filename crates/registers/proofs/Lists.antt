@@ -217,7 +217,7 @@ same-agree : (f g : ℕ → Call → MachineStep) → ((k : ℕ) (c : Call) → 
 same-agree f g e k [] [] a = a
 same-agree f g e k [] (s ∷ said) a = a
 same-agree f g e k (block ∷ blocks) [] a = a
-same-agree f g e k (block ∷ blocks) (s ∷ said) a = on (fed block) a.0 (same-agree f g e _ blocks said a.1)
+same-agree f g e k (block ∷ blocks) (s ∷ said) a = on (fed block) a.0 (same-agree f g e (machine_place f k (fed block)) blocks said a.1)
   where
     on : (c : Option Call) → Agrees (machine_said f k c) s → AllAgree g (machine_place f k c) blocks said
         → Agrees (machine_said g k c) s × AllAgree g (machine_place g k c) blocks said

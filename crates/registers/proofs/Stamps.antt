@@ -24,7 +24,7 @@ StampIn (read_answers.refused r) = Unit
 pub packet-stamp : (file : List ℕ) (w : Walker) {p : Shown} → InRange w.position → (read_of file w).answer ≡ packet p → p.stamp ≤ count_limit
 unfolding StampIn
 packet-stamp file w r e =
-    rw e at (read_cases file w (λ (q : Reading). StampIn q.answer) tt tt tt (λ h. tt) tt tt r.frames_in r.samples_in_lem)
+    rw e at (read_cases file w (λ (q : Reading). StampIn q.answer) tt tt tt (λ h. tt) tt tt r.frames_in r.samples_in)
 
 -- an accepted seek answers the stream's stamp where the walker stands
 pub seek-stamp : (table : List ℕ) (w : Walker) (stream : ℕ) (request : ℤ) {stamp : ℕ} → (seek_of table w stream request).answer ≡ accepted stamp
@@ -42,4 +42,4 @@ stamp_in stream p r = go (eqb stream 0)
   where
     go : (b : Bool) → cond b p.frames.0 p.samples.0 ≤ count_limit
     go true = r.frames_in
-    go false = r.samples_in_lem
+    go false = r.samples_in
