@@ -1,4 +1,1 @@
-pub mod Walks
-pub mod Readers
-pub mod Writers
 pub mod Lists

@@ -10,7 +10,7 @@ use demuxer::walker::{NextPacket, Trailer, Walker};
 use seek::SeekResult;
 
 // The file and where the next read stands in it.
-#[derive(Drop)]
+#[derive(Clone, Copy)]
 pub struct AmvDemuxer<'a> {
     pub file: &'a [u8],
     pub walker: Walker,

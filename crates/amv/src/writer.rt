@@ -7,7 +7,7 @@ use error::AmvResult;
 use muxer::{Settings, Writer};
 
 // What has been written, and the settings of the recording. The buffer is not held: a caller lends it to each call.
-#[derive(Drop)]
+#[derive(Clone, Copy)]
 pub struct AmvMuxer {
     pub writer: Writer,
 }
