@@ -137,7 +137,7 @@ fn words_array(name: &str, of: &str) -> String {
 
 /// `pub extern "C" fn amv_check(file: &[u8], out: &mut [u64; 6]) -> u32`: a slice is a pointer and a length.
 fn of_source() -> Functions {
-    let text = without(&read("crates/capi/src/lib.rt"), "//", "\n");
+    let text = without(&read("crates/capi_c/src/lib.rt"), "//", "\n");
     let functions = declarations(&text, "pub extern \"C\" fn amv_").into_iter();
     functions
         .map(|(name, parameters, after)| {
@@ -178,12 +178,12 @@ fn header_binding_and_source_agree() {
     assert_eq!(
         of_header(),
         source,
-        "include/amv.h and crates/capi/src/lib.rt"
+        "include/amv.h and crates/capi_c/src/lib.rt"
     );
     assert_eq!(
         of_binding(),
         source,
-        "src/sys.rs and crates/capi/src/lib.rt"
+        "src/sys.rs and crates/capi_c/src/lib.rt"
     );
 }
 

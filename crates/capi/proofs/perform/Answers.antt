@@ -1,0 +1,19 @@
+-- `capi::perform` meets its contract. Each arm is the command that it names.
+-- Assumes nothing.
+use Rattle.capi.proofs.Steps.{none_is, read_is, seek_is}
+use Rattle.capi.proofs.perform.Goals as goal
+
+pub returns-in-None : goal.returns-in-None
+returns-in-None c =
+    let a = c.args in
+    none_is a.file.now a.table.now a.state c.in-None.is c.walker_words.ensures
+
+pub returns-in-Read : goal.returns-in-Read
+returns-in-Read c =
+    let a = c.args in
+    read_is a.file.now a.table.now a.state c.in-Read.is (c.read_step.ensures a.state c.requires)
+
+pub returns-in-Seek : goal.returns-in-Seek
+returns-in-Seek c =
+    let a = c.args in
+    seek_is a.file.now a.table.now a.state c.in-Seek.is (c.seek_step.ensures a.state c.requires)
