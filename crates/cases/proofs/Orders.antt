@@ -57,7 +57,7 @@ orders =
             there = refl;
           };
       none_bad = record { whole = refl; records = (refl, (refl, tt)) };
-      fresh_near = record { cursor_in = omega arith; frames_in = omega arith; samples_in_lem = omega arith; blocks_in = omega arith };
+      fresh_near = record { cursor_in = omega arith; frames_in = omega arith; samples_in = omega arith; blocks_in = omega arith };
       farther_not = λ r. let h = r.cursor_in in omega arith;
       fifty_first = refl;
       fifty_one_packet = refl;
