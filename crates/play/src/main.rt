@@ -1,7 +1,9 @@
 // Writes a small recording through `AmvMuxer`, plays it through `AmvDemuxer` with one jump, and prints what was written and read.
 #![tactic(auto)]
 
-ghost use Rattle.std.specs.Prelude.{◌≡◌, length, take};
+ghost use Rattle.std.specs.Prelude.{◌≡◌, ◌++◌, length, take, OnOk};
+ghost use Rattle.std.specs.Fmt.{decimal};
+ghost use Rattle.std.specs.Io.KnownBytes.{Appends};
 ghost use Rattle.muxer.specs.Writer.{packet_call};
 ghost use Rattle.play.specs.Recording.{WriterLeft, pair_of, packets_of, recording_of, played};
 
@@ -13,9 +15,10 @@ use chunk_index::index::{IndexResult, build_chunk_index};
 use demuxer::packet::Packet;
 use demuxer::walker::{NextPacket, Trailer, Walker};
 use error::{AmvError, AmvResult};
-use libc::STDOUT_FILENO;
 use muxer::{Settings, Writer, Wrote};
 use seek::{SeekOutcome, SeekResult};
+use std::io;
+use std::io::Write;
 
 // More than the recording takes.
 const ROOM: usize = 512;
@@ -33,61 +36,92 @@ fn first(bytes: &[u8], len: usize) -> &[u8]
     bytes
 }
 
-fn print(text: &[u8]) {
-    io::write_all(STDOUT_FILENO, text);
+// Where the program prints, and whether every print so far has come through: after one that failed nothing more is printed, and what is written and
+// read goes on as it would.
+#[derive(Drop)]
+struct Printer<W: Write + Drop> {
+    out: W,
+    outcome: io::Result<()>,
 }
 
-fn print_field(name: &[u8], n: u64) {
-    print(name);
-    io::print_decimal(STDOUT_FILENO, n);
+// Text as it is.
+fn print<W: Write + Drop>(printer: &mut Printer<W>, text: &[u8])
+    ensures { OnOk printer.new.outcome (Appends (W.contents printer.old.out) (W.contents printer.new.out) text.now) }
+{
+    if printer.outcome.is_ok() {
+        printer.outcome = printer.out.write_all(text);
+    }
 }
 
-fn print_refusal(error: AmvError) {
-    print_field(b": refused, question ", error.number() as u64);
-    print_field(b" at ", error.place());
-    print(b"\n");
+// A name, and a number in decimal after it.
+fn print_field<W: Write + Drop>(printer: &mut Printer<W>, name: &[u8], n: u64)
+    ensures { OnOk printer.new.outcome (Appends (W.contents printer.old.out) (W.contents printer.new.out) (name.now ++ decimal n)) }
+{
+    print(printer, name);
+    if printer.outcome.is_ok() {
+        printer.outcome = write!(printer.out, "{n}");
+    }
 }
 
-fn print_wrote(what: &[u8], wrote: Wrote) {
-    print(what);
+fn print_refusal(printer: &mut Printer<impl Write + Drop>, error: AmvError) {
+    print_field(printer, b": refused, question ", error.number() as u64);
+    print_field(printer, b" at ", error.place());
+    print(printer, b"\n")
+}
+
+fn print_wrote(printer: &mut Printer<impl Write + Drop>, what: &[u8], wrote: Wrote) {
+    print(printer, what);
     let result = wrote.result;
     match result {
         AmvResult::Ok => {
             let writer = wrote.writer;
-            print_field(b": the file has ", writer.written);
-            print(b" bytes\n");
+            print_field(printer, b": the file has ", writer.written);
+            print(printer, b" bytes\n")
         }
-        AmvResult::Err(error) => print_refusal(error),
+        AmvResult::Err(error) => print_refusal(printer, error),
     }
 }
 
-fn write_packet(what: &[u8], writer: Writer, buf: &mut [u8], payload: &[u8], stream: u32) -> Writer
+fn write_packet(
+    printer: &mut Printer<impl Write + Drop>,
+    what: &[u8],
+    writer: Writer,
+    buf: &mut [u8],
+    payload: &[u8],
+    stream: u32,
+) -> Writer
     ensures { WriterLeft (packet_call writer payload.now stream buf.old) result buf.new }
 {
     let wrote = amv::plain::write_packet(writer, buf, payload, stream);
-    print_wrote(what, wrote);
+    print_wrote(printer, what, wrote);
     wrote.writer
 }
 
-fn write_pair(writer: Writer, buf: &mut [u8], frame: &[u8], block: &[u8]) -> Writer
+fn write_pair(
+    printer: &mut Printer<impl Write + Drop>,
+    writer: Writer,
+    buf: &mut [u8],
+    frame: &[u8],
+    block: &[u8],
+) -> Writer
     ensures { WriterLeft (pair_of writer buf.old frame.now block.now) result buf.new }
 {
-    let writer = write_packet(b"frame", writer, buf, frame, 0);
-    write_packet(b"sound", writer, buf, block, 1)
+    let writer = write_packet(printer, b"frame", writer, buf, frame, 0);
+    write_packet(printer, b"sound", writer, buf, block, 1)
 }
 
 // Two frames, each with a block of sound: of 2 samples, and of 3. A packet of no stream is refused.
-fn write_packets(writer: Writer, buf: &mut [u8]) -> Writer
+fn write_packets(printer: &mut Printer<impl Write + Drop>, writer: Writer, buf: &mut [u8]) -> Writer
     ensures { WriterLeft (packets_of writer buf.old) result buf.new }
 {
     let block = [0u8, 0, 0, 0, 2, 0, 0, 0, 7, 7];
-    let writer = write_pair(writer, buf, b"one", &block);
+    let writer = write_pair(printer, writer, buf, b"one", &block);
     let block = [0u8, 0, 0, 0, 3, 0, 0, 0, 7, 7, 7];
-    let writer = write_pair(writer, buf, b"three", &block);
-    write_packet(b"stream 2", writer, buf, b"none", 2)
+    let writer = write_pair(printer, writer, buf, b"three", &block);
+    write_packet(printer, b"stream 2", writer, buf, b"none", 2)
 }
 
-fn write_recording(buf: &mut [u8]) -> Writer
+fn write_recording(printer: &mut Printer<impl Write + Drop>, buf: &mut [u8]) -> Writer
     ensures { WriterLeft (recording_of buf.old) result buf.new }
 {
     let muxer = AmvMuxer::new(Settings {
@@ -99,34 +133,34 @@ fn write_recording(buf: &mut [u8]) -> Writer
     });
     let writer = muxer.writer;
     let header = amv::plain::write_header(writer, buf);
-    print_wrote(b"header", header);
+    print_wrote(printer, b"header", header);
     let writer = header.writer;
-    let writer = write_packets(writer, buf);
+    let writer = write_packets(printer, writer, buf);
     let trailer = amv::plain::write_trailer(writer, buf);
-    print_wrote(b"trailer", trailer);
+    print_wrote(printer, b"trailer", trailer);
     trailer.writer
 }
 
 // Of a frame also its payload, which is text here.
-fn print_packet(file: &[u8], packet: Packet) {
+fn print_packet(printer: &mut Printer<impl Write + Drop>, file: &[u8], packet: Packet) {
     let frame = packet.stream == 0;
     if frame {
-        print(b"frame");
+        print(printer, b"frame");
     } else {
-        print(b"sound");
+        print(printer, b"sound");
     }
-    print_field(b" of ", packet.len as u64);
-    print_field(b" bytes at ", packet.start as u64);
-    print_field(b", stamp ", packet.stamp);
+    print_field(printer, b" of ", packet.len as u64);
+    print_field(printer, b" bytes at ", packet.start as u64);
+    print_field(printer, b", stamp ", packet.stamp);
     if frame {
-        print(b": ");
-        print(amv::plain::payload(file, packet));
+        print(printer, b": ");
+        print(printer, amv::plain::payload(file, packet));
     }
-    print(b"\n");
+    print(printer, b"\n")
 }
 
 // Reads to the end, or to a refusal.
-fn play(file: &[u8], start: Walker) -> Walker
+fn play(printer: &mut Printer<impl Write + Drop>, file: &[u8], start: Walker) -> Walker
     ensures { result ≡ played (length file.now) file.now start }
 {
     let mut walker = start;
@@ -139,11 +173,11 @@ fn play(file: &[u8], start: Walker) -> Walker
         let next = read.walker;
         walker = next;
         match answer {
-            NextPacket::Packet(packet) => print_packet(file, packet),
+            NextPacket::Packet(packet) => print_packet(printer, file, packet),
             NextPacket::End => return walker,
             NextPacket::Err(error) => {
-                print(b"read");
-                print_refusal(error);
+                print(printer, b"read");
+                print_refusal(printer, error);
                 return walker;
             }
         }
@@ -151,73 +185,83 @@ fn play(file: &[u8], start: Walker) -> Walker
     walker
 }
 
-fn print_trailer(walker: Walker, len: u64) {
+fn print_trailer(printer: &mut Printer<impl Write + Drop>, walker: Walker, len: u64) {
     match progress::trailer_offset(walker) {
-        Trailer::At(offset) => print_field(b", trailer at ", offset),
-        Trailer::NotMet => print(b", no trailer"),
+        Trailer::At(offset) => print_field(printer, b", trailer at ", offset),
+        Trailer::NotMet => print(printer, b", no trailer"),
     }
     match progress::trailer_matches_eof(walker, len) {
-        TrailerMatch::Matches(last) => {
-            if last {
-                print(b" ends the file");
-            }
-        }
-        TrailerMatch::NotMet => {}
+        TrailerMatch::Matches(true) => print(printer, b" ends the file"),
+        TrailerMatch::Matches(false) | TrailerMatch::NotMet => {}
     }
 }
 
-fn print_progress(file: &[u8], walker: Walker) {
-    print_field(b"end: frames ", progress::video_frames_emitted(walker));
-    print_field(b", blocks ", progress::audio_blocks_emitted(walker));
+fn print_progress(printer: &mut Printer<impl Write + Drop>, file: &[u8], walker: Walker) {
+    print_field(
+        printer,
+        b"end: frames ",
+        progress::video_frames_emitted(walker),
+    );
+    print_field(
+        printer,
+        b", blocks ",
+        progress::audio_blocks_emitted(walker),
+    );
     if progress::movi_interleave_balanced(walker) {
-        print(b", balanced");
+        print(printer, b", balanced");
     }
     if progress::is_truncated(walker) {
-        print(b", cut");
+        print(printer, b", cut");
     }
-    print_trailer(walker, file.len() as u64);
-    print(b"\n");
+    print_trailer(printer, walker, file.len() as u64);
+    print(printer, b"\n")
 }
 
-fn print_sought(sought: SeekOutcome) {
-    print(b"jump");
+fn print_sought(printer: &mut Printer<impl Write + Drop>, sought: SeekOutcome) {
+    print(printer, b"jump");
     let result = sought.result;
     match result {
         SeekResult::Ok(stamp) => {
-            print_field(b" to stamp ", stamp);
-            print(b"\n");
+            print_field(printer, b" to stamp ", stamp);
+            print(printer, b"\n")
         }
-        SeekResult::Err(error) => print_refusal(error),
+        SeekResult::Err(error) => print_refusal(printer, error),
     }
 }
 
 // From the second frame on: the sound that is read next belongs to it.
-fn jump(file: &[u8], walker: Walker, table: &[u8]) {
+fn jump(printer: &mut Printer<impl Write + Drop>, file: &[u8], walker: Walker, table: &[u8]) {
     let sought = amv::plain::seek_to_via_index(file, walker, table, 0, 1);
-    print_sought(sought);
-    let walker = sought.walker;
-    print_progress(file, play(file, walker));
+    print_sought(printer, sought);
+    let walker = play(printer, file, sought.walker);
+    print_progress(printer, file, walker)
 }
 
-fn play_recording(file: &[u8]) {
-    let walker = play(file, Walker::new());
-    print_progress(file, walker);
+fn play_recording(printer: &mut Printer<impl Write + Drop>, file: &[u8]) {
+    let walker = play(printer, file, Walker::new());
+    print_progress(printer, file, walker);
     let mut table = [0u8; TABLE_RECORDS * ChunkIndexEntry::LEN];
     match build_chunk_index(file, &mut table) {
         IndexResult::Ok(count) => {
             if count <= TABLE_RECORDS {
-                jump(file, walker, first(&table, count * ChunkIndexEntry::LEN));
+                let records = first(&table, count * ChunkIndexEntry::LEN);
+                jump(printer, file, walker, records);
             }
         }
         IndexResult::Err(error) => {
-            print(b"index");
-            print_refusal(error);
+            print(printer, b"index");
+            print_refusal(printer, error)
         }
     }
 }
 
-fn main() {
+fn main(rt: HostRuntime) -> io::Result<()> {
+    let mut printer = Printer {
+        out: rt.stdout(),
+        outcome: Ok(()),
+    };
     let mut buf = [0u8; ROOM];
-    let writer = write_recording(&mut buf);
-    play_recording(first(&buf, writer.written as usize));
+    let writer = write_recording(&mut printer, &mut buf);
+    play_recording(&mut printer, first(&buf, writer.written as usize));
+    printer.outcome
 }

@@ -1,3 +1,4 @@
 pub mod Parts
 pub mod Tags
 pub mod Lent
+pub mod Printed

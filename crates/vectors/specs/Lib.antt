@@ -1,2 +1,3 @@
 -- How stored answers are replayed: docs/VECTORS.md. Nothing of document 01.
 pub mod Cases
+pub mod Printed
