@@ -26,11 +26,10 @@ if [ -n "${AMV_LIB_DIR:-}" ]; then
 fi
 
 make() {
-    # rt check proves crates beside each other, rt staticlib one after the other.
-    show_rt capi check capi
-    show_rt capi staticlib capi
+    # For every x86-64: rt's own choice needs a newer processor, and a static library does not ask for it.
+    show_rt capi_c lib --cpu=x86-64
     mkdir -p "$lib_dir"
-    cp "$root/target/staticlib/libcapi.a" "$library.new" && mv "$library.new" "$library" || fail "cannot write $library"
+    cp "$root/crates/capi_c/out/libcapi_c.a" "$library.new" && mv "$library.new" "$library" || fail "cannot write $library"
 }
-keep_current capi "$library"
+keep_current capi_c "$library"
 say "${library#"$root/"} is current"

@@ -52,8 +52,7 @@ AMV_ORIGINAL=$(readlink -f -- "$dir")
 export AMV_ORIGINAL
 
 "$root/build-library.sh" || exit
-make() { show_rt list check list; }
-keep_current list "$root/target/bin/list"
+keep_list_current
 build_with_cargo compare || exit
 case $mode in
 vectors) exec "$root/target/compare/release/compare" vectors "$root/crates/vectors" ;;

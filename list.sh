@@ -42,10 +42,7 @@ case $file in
 esac
 exec </dev/null
 
-program=$root/target/bin/list
-make() { show_rt list check list; }
-keep_current list "$program"
-
-lines=$("$program" <&3) || fail "the program ended with status $?"
+keep_list_current
+lines=$("$list_program" <&3) || fail "the program ended with status $?"
 printf '%s\n' "$lines"
 case $lines in 'NO '*) exit 1 ;; esac

@@ -29,7 +29,7 @@ stands_on() {
             for (i = 1; i <= n; i++) take(deps[i])
         }
         { sub(/#.*/, "") }
-        split($0, part, ":") == 2 { on[part[1]] = part[2]; order[++crates] = part[1] }
+        split($0, part, ":") == 2 { split(part[1], word, " "); on[word[1]] = part[2]; order[++crates] = word[1] }
         END {
             n = split(names, name, " ")
             for (i = 1; i <= n; i++) take(name[i])
@@ -51,18 +51,18 @@ is_current() { # CRATE FILE
     [ -z "$(find "$@" -newer "$stamp" -print 2>&1 | head -n 1)" ]
 }
 
-# Runs rt, with a line for each crate as it is proved. The rest of what rt prints is kept, and shown where rt fails.
+# Runs rt in a crate's folder, with a line for each crate as it is proved. The rest of what rt prints is kept, and shown where rt fails.
 show_rt() { # CRATE, then rt's words
     log=$root/target/$me.log
-    total=$(stands_on "$1" | wc -l)
+    crate=$1
     shift
-    { (cd "$root" && rt "$@") 2>&1; echo "ended $?"; } | tee "$log" | awk -v me="$me" -v total="$total" '
-        / proved \(unchanged since it was last proved\)$/ { done++ }
-        /^rt: [a-z_]+ proved \([0-9]+ s\)$/ { printf "%s: %d of %d: %s\n", me, ++done, total, substr($0, 5); fflush() }
+    { (cd "$root/crates/$crate" && rt "$@" </dev/null) 2>&1; echo "ended $?"; } | tee "$log" | awk -v me="$me" '
+        /^crate [a-z_0-9]+: / { name = substr($2, 1, length($2) - 1) }
+        /^logic=proved / && name != "" { printf "%s: %s is proved\n", me, name; fflush(); name = "" }
         { last = $2 }
         END { exit last }' >&2 || {
         sed '$d' "$log" >&2
-        fail "rt $* failed; what it said is above, and in ${log#"$root/"}"
+        fail "rt $* failed in crates/$crate; what it said is above, and in ${log#"$root/"}"
     }
 }
 
@@ -87,4 +87,15 @@ lib_dir=$root/target/lib
 build_with_cargo() { # FOLDER
     command -v cargo >/dev/null || fail "needs cargo, and there is none on the path"
     AMV_LIB_DIR=$lib_dir cargo build --quiet --offline --release --manifest-path "$root/$1/Cargo.toml" --target-dir "$root/target/$1"
+}
+
+# The listing program, proved and compiled, unless it is current. rt runs it once, on no input.
+list_program=$root/target/bin/list
+keep_list_current() {
+    make() {
+        show_rt list run
+        mkdir -p "$root/target/bin"
+        cp "$root/crates/list/out/list" "$list_program.new" && mv "$list_program.new" "$list_program" || fail "cannot write $list_program"
+    }
+    keep_current list "$list_program"
 }
