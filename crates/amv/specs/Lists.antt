@@ -1,16 +1,15 @@
 -- Lists of the methods of the reader and of the writer, and demand 3 of what they return and leave. Assumes nothing.
 use Rattle.std.specs.Prelude.{◌≡◌, ℕ, ◌<◌, List, ℤ, length, take}
+use Rattle.std.specs.Result.{Result, Ok, Err}
+use Rattle.std.specs.Option.{Option, None, Some}
+use Rattle.error.specs.declared.AmvError.{AmvError}
 use Rattle.std.specs.Borrow.{Bor}
 use Rattle.error.specs.Answer.{Answer}
 use Rattle.error.specs.Refusal.{said}
-use Rattle.error.specs.declared.AmvResult.{AmvResult}
 use Rattle.fields.specs.Le.{Bytes}
 use Rattle.demuxer.specs.Read.{said_next}
 use Rattle.demuxer.specs.Read as demuxer
-use Rattle.demuxer.specs.declared.walker.NextPacket.{NextPacket}
 use Rattle.demuxer.specs.declared.walker.Walker.{Walker}
-use Rattle.seek.specs.Seek.{said_seek}
-use Rattle.seek.specs.declared.SeekResult.{SeekResult}
 use Rattle.muxer.specs.Writer.{fresh}
 use Rattle.muxer.specs.declared.Settings.{Settings}
 use Rattle.walk.specs.Chunks.{Chunk}
@@ -26,14 +25,14 @@ use Rattle.amv.specs.declared.writer.AmvMuxer.{AmvMuxer}
 
 -- one method of the reader, by its contract; a seek over the same records each time
 pub data DemuxerStep (table : List ℕ) : AmvDemuxer → Call → CallAnswer → AmvDemuxer → Type 0 where
-  reads : {d next : AmvDemuxer} (answer : NextPacket) → ReadsNext d answer next
+  reads : {d next : AmvDemuxer} (answer : Result (Option Packet) AmvError) → ReadsNext d answer next
       → DemuxerStep table d read (read_answer (said_next d.file.now answer)) next
-  seeks : {d next : AmvDemuxer} {stream : ℕ} {request : ℤ} (result : SeekResult) → Seeks d table stream request result next
-      → DemuxerStep table d (seek stream request) (seek_answer (said_seek result)) next
+  seeks : {d next : AmvDemuxer} {stream : ℕ} {request : ℤ} (result : Result ℕ AmvError) → Seeks d table stream request result next
+      → DemuxerStep table d (seek stream request) (seek_answer (said result)) next
 
 -- one of the writer
 pub data MuxerStep : Lent AmvMuxer → WriteCall → Answer Unit → Lent AmvMuxer → Type 0 where
-  writes : {s next : Lent AmvMuxer} {c : WriteCall} (result : AmvResult)
+  writes : {s next : Lent AmvMuxer} {c : WriteCall} (result : Result Unit AmvError)
       → MuxerWrites (write_step s.state.writer s.buffer c) result next.state next.buffer → MuxerStep s c (said result) next
 
 -- Of the methods, from a reader and a writer as `new` gives them: that they are 01's calls, demand 3, and every file whose index is accepted

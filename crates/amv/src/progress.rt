@@ -2,14 +2,7 @@
 ghost use Rattle.std.specs.Prelude.{◌≡◌, eqb};
 ghost use Rattle.amv.specs.Progress.{matches_eof};
 
-use demuxer::walker::{Trailer, Walker};
-
-// Whether the trailer ends the file, if it was met.
-#[derive(Clone, Copy)]
-pub enum TrailerMatch {
-    Matches(bool),
-    NotMet,
-}
+use demuxer::walker::Walker;
 
 // The frames before the next read; the next frame's stamp.
 pub fn video_frames_emitted(walker: Walker) -> u64
@@ -42,24 +35,24 @@ pub fn is_truncated(walker: Walker) -> bool
 }
 
 // Where the trailer stands, once a read has met it.
-pub fn trailer_offset(walker: Walker) -> Trailer
+pub fn trailer_offset(walker: Walker) -> Option<u64>
     ensures { result ≡ walker.trailer }
 {
     walker.trailer
 }
 
 // Whether the trailer's 8 bytes, once met, are the last of a stream of a length. A difference is asked, since the sum may be past a u64.
-pub fn trailer_matches_eof(walker: Walker, stream_len: u64) -> TrailerMatch
+pub fn trailer_matches_eof(walker: Walker, stream_len: u64) -> Option<bool>
     ensures { result ≡ matches_eof walker.trailer stream_len }
 {
     let trailer = walker.trailer;
     match trailer {
-        Trailer::At(offset) => {
+        Some(offset) => {
             if stream_len < 8 {
-                return TrailerMatch::Matches(false);
+                return Some(false);
             }
-            TrailerMatch::Matches(stream_len - 8 == offset)
+            Some(stream_len - 8 == offset)
         }
-        Trailer::NotMet => TrailerMatch::NotMet,
+        None => None,
     }
 }

@@ -4,10 +4,8 @@ ghost use Rattle.demuxer.specs.Packet.{payload_of};
 ghost use Rattle.amv.specs.Reader.{opened, ReadsNext, Seeks};
 ghost use Rattle.amv.specs.Progress.{matches_eof};
 
-use crate::progress::TrailerMatch;
 use demuxer::packet::Packet;
-use demuxer::walker::{NextPacket, Trailer, Walker};
-use seek::SeekResult;
+use demuxer::walker::Walker;
 
 // The file and where the next read stands in it.
 #[derive(Clone, Copy)]
@@ -29,7 +27,7 @@ impl<'a> AmvDemuxer<'a> {
 
     // The next packet or End, and the walker past it. Refuses a file that is too long (10), counts that are too large (32) and an unknown tag (31),
     // and stays where it was.
-    pub fn next_packet(&mut self) -> NextPacket
+    pub fn next_packet(&mut self) -> Result<Option<Packet>, AmvError>
         ensures { ReadsNext self.old result self.new }
     {
         let read = self.walker.next_packet(self.file);
@@ -39,7 +37,7 @@ impl<'a> AmvDemuxer<'a> {
 
     // Goes to the first chunk of a stream whose stamp is the request or later, by the records of a chunk index, and gives the stamp there. Refuses
     // another stream (42), a table that is not whole records (41), a bad record (43) and counts that are too large (32), and stays where it was.
-    pub fn seek_to_via_index(&mut self, table: &[u8], stream: u32, request: i64) -> SeekResult
+    pub fn seek_to_via_index(&mut self, table: &[u8], stream: u32, request: i64) -> Result<u64, AmvError>
         ensures { Seeks self.old table.now stream request result self.new }
     {
         let sought = seek::seek_to_via_index(self.walker, table, stream, request);
@@ -83,14 +81,14 @@ impl<'a> AmvDemuxer<'a> {
     }
 
     // Where the trailer stands, once a read has met it.
-    pub fn trailer_offset(&self) -> Trailer
+    pub fn trailer_offset(&self) -> Option<u64>
         ensures { result ≡ self.now.walker.trailer }
     {
         crate::progress::trailer_offset(self.walker)
     }
 
     // Whether the trailer, once met, is the last 8 bytes of a stream of a length: the caller knows how long the stream is.
-    pub fn trailer_matches_eof(&self, stream_len: u64) -> TrailerMatch
+    pub fn trailer_matches_eof(&self, stream_len: u64) -> Option<bool>
         ensures { result ≡ matches_eof self.now.walker.trailer stream_len }
     {
         crate::progress::trailer_matches_eof(self.walker, stream_len)

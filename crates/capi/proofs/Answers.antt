@@ -1,10 +1,10 @@
 -- What a call's number and words say is what the call by value answers: a read names its payload by where it stands and how long it is, and
 -- no refusal has the number 0. Assumes nothing.
 use mathlib.Core.Path.{◌≡◌, refl, sym, ap, subst, ◌∙◌}
+use Rattle.std.specs.Option.{Option, None, Some}
 use Prim.Native.Nat.{ℕ, ◌+◌, ◌≤◌}
 use mathlib.Core.Bool.{Bool, true, false, cond}
 use mathlib.Core.List.{List}
-use mathlib.Core.Option.{Option, none, some}
 use native.Mathlib.Omega.{arith}
 use borrow.Author.Tests.{le-leb, ne_eqb, leb-true}
 use lib.Dec.{leb, eqb}
@@ -19,7 +19,6 @@ use Rattle.demuxer.specs.Read as read_answers
 use Rattle.demuxer.specs.declared.head.Head.{Head}
 use Rattle.demuxer.specs.declared.head.Head.TheVariants as head
 use Rattle.demuxer.specs.declared.packet.Packet.{Packet}
-use Rattle.demuxer.specs.declared.packet.PacketDuration.TheVariants.{Ticks, None}
 use Rattle.demuxer.specs.declared.walker.Walker.{Walker}
 use Rattle.demuxer.specs.Sentences.{as_answer}
 use Rattle.recording.specs.Machine.{Call, read, seek, read_answer, seek_answer, call}
@@ -47,7 +46,7 @@ AnswerNamed file w (read_answers.refused r) = Unit
 shown_back : (n : ℕ) → ticks (packet_duration (shown_duration (ticks (packet_duration n)))) ≡ ticks (packet_duration n)
 shown_back n = go _ refl
   where
-    go : (b : Bool) → eqb n 0 ≡ b → ticks (packet_duration (shown_duration (ticks (cond b None (Ticks n))))) ≡ ticks (cond b None (Ticks n))
+    go : (b : Bool) → eqb n 0 ≡ b → ticks (packet_duration (shown_duration (ticks (cond b None (Some n))))) ≡ ticks (cond b None (Some n))
     go true e = refl
     go false e = rw e
 
@@ -84,7 +83,7 @@ module _ (file : List ℕ) (w : Walker) where
   head_named head.Short = tt
   head_named head.Trailer = tt
   head_named head.Unknown = tt
-  head_named (head.Video size) = whole size 0 _ (some 1) _ _ refl refl
+  head_named (head.Video size) = whole size 0 _ (Some 1) _ _ refl refl
   head_named (head.Audio size) = whole size 1 _ _ _ _ refl (shown_back (count_of (payload_at file w.position.cursor size)))
 
   read_named : AnswerNamed file w (read_of file w).answer
@@ -131,20 +130,20 @@ module _ (file : List ℕ) (w : Walker) where
 
   -- its answer as that of a read
   as_read : Answer (Option Shown) → ReadAnswer
-  as_read (accepted none) = End
-  as_read (accepted (some p)) = packet p
+  as_read (accepted None) = End
+  as_read (accepted (Some p)) = packet p
   as_read (refused r) = read_answers.refused r
 
   read_back : (a : Answer (Option Shown)) → as_answer (as_read a) ≡ a
   unfolding as_read
-  read_back (accepted none) = refl
-  read_back (accepted (some p)) = refl
+  read_back (accepted None) = refl
+  read_back (accepted (Some p)) = refl
   read_back (refused r) = refl
 
   same-words : (a : Answer (Option Shown)) → given (shown_words w) a ≡ read_words w (as_read a)
   unfolding as_read
-  same-words (accepted none) = refl
-  same-words (accepted (some p)) = refl
+  same-words (accepted None) = refl
+  same-words (accepted (Some p)) = refl
   same-words (refused r) = refl
 
   of_read : (a : ReadAnswer) → AnswerNamed file w a → AnswerNamed file w (as_read (accepted (packet_of (done_of (read_answer a)))))
@@ -163,9 +162,9 @@ module _ (file : List ℕ) (w : Walker) where
   step_named table block = go (command_in block)
     where
       go : (d : Answer (Option Call)) → AnswerNamed file w (as_read (stepped_from file table w block d).answer)
-      go (accepted none) = unfold as_read AnswerNamed in tt
-      go (accepted (some read)) = unfold call in of_read (read_of file w).answer read_named
-      go (accepted (some (seek stream request))) = unfold call in of_seek (seek_of table w stream request).answer
+      go (accepted None) = unfold as_read AnswerNamed in tt
+      go (accepted (Some read)) = unfold call in of_read (read_of file w).answer read_named
+      go (accepted (Some (seek stream request))) = unfold call in of_seek (seek_of table w stream request).answer
       go (refused r) = unfold as_read AnswerNamed in tt
 
   pub step-told : (table block : List ℕ) {number : ℕ} {out : List ℕ}

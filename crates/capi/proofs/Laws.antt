@@ -1,9 +1,11 @@
 -- From what the called function ensures to what the exported one answers and leaves. Assumes nothing.
 use mathlib.Core.Path.{◌≡◌, refl, sym, ap, subst, ◌∙◌}
+use Rattle.std.specs.Result.{Result, Ok, Err}
+use Rattle.std.specs.Option.{Option, None, Some}
+use Rattle.error.specs.declared.AmvError.{AmvError}
 use Prim.Native.Nat.{ℕ, ◌-◌}
 use mathlib.Core.Bool.{Bool, true, false, cond}
 use mathlib.Core.List.{List, [], ◌∷◌}
-use mathlib.Core.Option.{Option}
 use native.Mathlib.Omega.{arith}
 use lib.IntN.{ℤ}
 use lib.ListN.{length, replicate}
@@ -15,7 +17,6 @@ use Rattle.error.specs.Refusal.{said}
 use Rattle.demuxer.specs.Read.{said_next, said_read, read_of}
 use Rattle.demuxer.specs.declared.walker.Walker.{Walker}
 use Rattle.demuxer.specs.declared.walker.Read.{Read}
-use Rattle.demuxer.specs.declared.walker.NextPacket.{NextPacket}
 use Rattle.seek.specs.Seek.{Seeking, seek_of}
 use Rattle.muxer.specs.Writer.{WriteOutcome, MeetsOutcome, outcome, after_packet, packet_questions, packet_call}
 use Rattle.muxer.specs.declared.Writer.{Writer}
@@ -24,7 +25,6 @@ use Rattle.recording.specs.Machine.{Call}
 use Rattle.registers.specs.Registers.{command_in, perform, stepped, stepped_from, said_step, step_of, MeetsStep}
 use Rattle.registers.specs.Steps.{block_told}
 use Rattle.registers.proofs.Performs.{block-told}
-use Rattle.registers.specs.declared.RegisterResult.{RegisterResult}
 use Rattle.registers.specs.declared.RegisterStep.{RegisterStep}
 use Rattle.registers.specs.declared.Told.{Told}
 use Rattle.words.specs.Out.{OutSays, given, checked, unless_refused, shown_words, read_words}
@@ -76,7 +76,7 @@ module _ (n : ℕ) (answer : Walker → Answer (List ℕ)) (next : Walker → Wa
   walks e said o = record { says = legal_says e n answer said; walker = o ∙ legal_leaves e ws (λ w. walker_words (next w)) }
 
 -- the words of a read's answer that is known
-pub read_gave : (file : List ℕ) (w : Walker) {r : Read} {v : NextPacket} → said_read file r ≡ read_of file w → r.answer ≡ v
+pub read_gave : (file : List ℕ) (w : Walker) {r : Read} {v : Result (Option Packet) AmvError} → said_read file r ≡ read_of file w → r.answer ≡ v
     → next_answer file w ≡ read_words w (said_next file v)
 read_gave file w e t = ap (λ q. read_words w q.answer) (sym e) ∙ ap (λ v. read_words w (said_next file v)) t
 
@@ -96,7 +96,7 @@ module _ (file table ws block : List ℕ) where
       }
 
   -- by its result, which is known
-  pub steps : {w : Walker} {r : RegisterStep} {v : RegisterResult} {number : ℕ} {out words after : List ℕ} → walker_of ws ≡ accepted w
+  pub steps : {w : Walker} {r : RegisterStep} {v : Result (Option Packet) AmvError} {number : ℕ} {out words after : List ℕ} → walker_of ws ≡ accepted w
       → MeetsStep file table w block r after → r.result ≡ v → words ≡ walker_words r.walker
       → OutSays 7 (given (shown_words w) (said_step file v)) number out → StepCall file table ws block number out words after
   steps {w} {number = number} {out = out} e m t o s =

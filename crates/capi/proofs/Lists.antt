@@ -1,11 +1,12 @@
 -- Calls through words are 01's calls: the words spell a state before each call and after it, and what the call returns and writes says what
 -- the call by value answers; so 01's claims hold of every list of them. Assumes nothing.
 use mathlib.Core.Path.{◌≡◌, refl, sym, ap, subst, ◌∙◌}
+use Rattle.error.specs.Refusal.{said}
+use Rattle.std.specs.Option.{Option, None, Some}
 use Prim.Native.Nat.{ℕ, ◌+◌}
 use mathlib.Core.Bool.{Bool, true, false, cond}
 use mathlib.Core.List.Memᴰ
 use mathlib.Core.List.{List, [], Memᴰ}
-use mathlib.Core.Option.{Option, none, some}
 use native.Mathlib.Omega.{arith}
 use borrow.Author.Tests.{ne_eqb, leb-true}
 use lib.Dec.{leb, eqb}
@@ -22,8 +23,6 @@ use Rattle.demuxer.specs.Read as demuxer
 use Rattle.demuxer.proofs.Ranges.{range_facts}
 use Rattle.demuxer.specs.declared.head.Head.{Head}
 use Rattle.demuxer.specs.declared.head.Head.TheVariants as head
-use Rattle.demuxer.specs.declared.walker.Trailer.{Trailer}
-use Rattle.demuxer.specs.declared.walker.Trailer.TheVariants.{At}
 use Rattle.demuxer.specs.declared.walker.Walker.{Walker}
 use Rattle.seek.specs.Seek.{seek_of}
 use Rattle.seek.proofs.Sentences.{seek_sentences}
@@ -51,7 +50,7 @@ use Rattle.capi.proofs.Answers.{read_told, seek-told, step-told, write-told}
 
 -- ---- a walker that its words spell
 
-abbrev Spelt : Trailer → Type 0
+abbrev Spelt : Option ℕ → Type 0
 Spelt t = trailer_of (trailer_word t) ≡ t
 
 module _ (file : List ℕ) (w : Walker) (s : Spelt w.trailer) where
@@ -64,7 +63,7 @@ module _ (file : List ℕ) (w : Walker) (s : Spelt w.trailer) where
   sound_spelt size = either (λ (q : Reading). Spelt q.walker.trailer) (leb (w.position.cursor + 8 + size) (length file)) _ _ s s
 
   -- a cursor that may be read at is no largest word
-  cursor_spelt : in_range w.position ≡ true → Spelt (At w.position.cursor)
+  cursor_spelt : in_range w.position ≡ true → Spelt (Some w.position.cursor)
   cursor_spelt r =
       let f = range_facts w.position r in
       rw (ne_eqb w.position.cursor not_met (λ e. omega arith))
@@ -118,8 +117,8 @@ step_spelt file table w s block = go (command_in block)
   where
     go : (a : Answer (Option Call)) → Spelt (stepped_from file table w block a).walker.trailer
     go (refused r) = s
-    go (accepted none) = s
-    go (accepted (some c)) = call_spelt file table w s c
+    go (accepted None) = s
+    go (accepted (Some c)) = call_spelt file table w s c
 
 calling : (file table : List ℕ) → Calling Stands (WalkerStep file table) file table
 unfolding call

@@ -6,7 +6,7 @@ ghost use Rattle.std.specs.Prelude.{◌≡◌, cond};
 ghost use Rattle.error.specs.Answer.{accepted};
 ghost use Rattle.chunk.specs.Interleave.{interleave};
 ghost use Rattle.duration.specs.Duration.{packed_of, run_length};
-ghost use Rattle.prelude.specs.Prelude.{said_prelude, parse_of, strict_of};
+ghost use Rattle.prelude.specs.Prelude.{said, parse_of, strict_of};
 ghost use Rattle.chunk_index.specs.Index.{build_of};
 ghost use Rattle.page.specs.Page.{print_of};
 ghost use Rattle.sound.specs.Sound.{decode_of};
@@ -19,20 +19,19 @@ ghost use Rattle.capi.specs.Calls.{summary_answer, check_answer, index_answer, p
 ghost use Rattle.capi.specs.Calls.{WalkerCall, next_answer, next_walker, seek_answer, seek_walker, StepCall, WriterCall};
 ghost use Rattle.capi.specs.Steps.{DoneInWords, Performs, read_performed, seek_performed};
 
-use chunk_index::index::{IndexResult, build_chunk_index};
-use chunk_index::summary::{SummaryResult, summary};
-use demuxer::walker::{NextPacket, Walker};
+use chunk_index::index::build_chunk_index;
+use chunk_index::summary::summary;
+use demuxer::walker::Walker;
 use duration::AmvDuration;
-use error::AmvResult;
-use finished::{CheckResult, check};
-use page::{PageResult, print_index};
-use prelude::prelude::{AmvPrelude, AmvPreludeResult};
-use registers::{Command, CommandResult, Told, command_in, signed, write_block};
-use seek::{SeekResult, seek_to_via_index};
-use sound::{SamplesResult, decode_block};
+use finished::check;
+use page::print_index;
+use prelude::prelude::AmvPrelude;
+use registers::{Command, Told, command_in, signed, write_block};
+use seek::seek_to_via_index;
+use sound::decode_block;
 use words::out::{packet_out, prelude_out, result_out};
-use words::walker::{WalkerState, at_position, mark_word, walker_of, walker_words};
-use words::writer::{WriterState, at_counts, writer_of, writer_words};
+use words::walker::{at_position, mark_word, walker_of, walker_words};
+use words::writer::{at_counts, writer_of, writer_words};
 
 // The number of a call whose state's words are not all in their fields' ranges.
 const ILLEGAL_STATE: u32 = 1;
@@ -57,11 +56,11 @@ pub fn amv_summary(file: &[u8], out: &mut [u64; 3]) -> u32
     ensures { OutSays 3 (summary_answer file.now) result out.new }
 {
     match summary(file) {
-        SummaryResult::Ok(counts) => {
+        Ok(counts) => {
             *out = [0, counts.frames, counts.blocks];
             0
         }
-        SummaryResult::Err(e) => {
+        Err(e) => {
             *out = [e.place(), 0, 0];
             e.number()
         }
@@ -73,7 +72,7 @@ pub fn amv_check(file: &[u8], out: &mut [u64; 6]) -> u32
     ensures { OutSays 6 (check_answer file.now) result out.new }
 {
     match check(file) {
-        CheckResult::Ok(totals) => {
+        Ok(totals) => {
             *out = [
                 0,
                 totals.frames,
@@ -84,7 +83,7 @@ pub fn amv_check(file: &[u8], out: &mut [u64; 6]) -> u32
             ];
             0
         }
-        CheckResult::Err(e) => {
+        Err(e) => {
             *out = [e.place(), 0, 0, 0, 0, 0];
             e.number()
         }
@@ -97,11 +96,11 @@ pub fn amv_build_chunk_index(file: &[u8], table: &mut [u8], out: &mut [u64; 2]) 
     ensures table_after { table.new ≡ (build_of file.now table.old).table }
 {
     match build_chunk_index(file, table) {
-        IndexResult::Ok(count) => {
+        Ok(count) => {
             *out = [0, count as u64];
             0
         }
-        IndexResult::Err(e) => {
+        Err(e) => {
             *out = [e.place(), 0];
             e.number()
         }
@@ -114,11 +113,11 @@ pub fn amv_print_index(table: &[u8], page: &mut [u8], out: &mut [u64; 2]) -> u32
     ensures page_after { page.new ≡ (print_of table.now page.old).page }
 {
     match print_index(table, page) {
-        PageResult::Ok(lines) => {
+        Ok(lines) => {
             *out = [0, lines as u64];
             0
         }
-        PageResult::Err(e) => {
+        Err(e) => {
             *out = [e.place(), 0];
             e.number()
         }
@@ -131,11 +130,11 @@ pub fn amv_decode_block(block: &[u8], samples: &mut [i16], out: &mut [u64; 2]) -
     ensures samples_after { samples.new ≡ (decode_of block.now samples.old).samples }
 {
     match decode_block(block, samples) {
-        SamplesResult::Ok(count) => {
+        Ok(count) => {
             *out = [0, count as u64];
             0
         }
-        SamplesResult::Err(e) => {
+        Err(e) => {
             *out = [e.place(), 0];
             e.number()
         }
@@ -143,8 +142,8 @@ pub fn amv_decode_block(block: &[u8], samples: &mut [i16], out: &mut [u64; 2]) -
 }
 
 // Either way of parsing the prelude.
-fn parsed(file: &[u8], strict: bool) -> AmvPreludeResult
-    ensures { said_prelude result ≡ cond strict (strict_of file.now) (parse_of file.now) }
+fn parsed(file: &[u8], strict: bool) -> Result<AmvPrelude, AmvError>
+    ensures { said result ≡ cond strict (strict_of file.now) (parse_of file.now) }
 {
     if strict {
         AmvPrelude::parse_strict(file)
@@ -158,11 +157,11 @@ pub fn amv_parse(file: &[u8], strict: bool, out: &mut [u64; 16]) -> u32
     ensures { OutSays 16 (parse_answer file.now strict) result out.new }
 {
     match parsed(file, strict) {
-        AmvPreludeResult::Ok(prelude) => {
+        Ok(prelude) => {
             *out = prelude_out(prelude);
             0
         }
-        AmvPreludeResult::Err(e) => {
+        Err(e) => {
             *out = [e.place(), 0, 0, 0, 0, 0, 0, 0, 0, 0, 0, 0, 0, 0, 0, 0];
             e.number()
         }
@@ -174,7 +173,7 @@ pub fn amv_next_packet(file: &[u8], walker: &mut [u64; 7], out: &mut [u64; 7]) -
     ensures { WalkerCall 7 (next_answer file.now) (next_walker file.now)
         walker.old result out.new walker.new }
 {
-    let WalkerState::Legal(state) = walker_of(*walker) else {
+    let Some(state) = walker_of(*walker) else {
         *out = [0; 7];
         return ILLEGAL_STATE;
     };
@@ -182,19 +181,19 @@ pub fn amv_next_packet(file: &[u8], walker: &mut [u64; 7], out: &mut [u64; 7]) -
     let next = read.walker;
     let answer = read.answer;
     match answer {
-        NextPacket::Packet(packet) => {
+        Ok(Some(packet)) => {
             // Only the position is new, so four words are stored and not seven.
             let position = next.position;
             *walker = at_position(*walker, position);
             *out = packet_out(packet);
             0
         }
-        NextPacket::End => {
+        Ok(None) => {
             *walker = walker_words(next);
             *out = [0; 7];
             0
         }
-        NextPacket::Err(e) => {
+        Err(e) => {
             *walker = walker_words(next);
             *out = [e.place(), 0, 0, 0, 0, 0, 0];
             e.number()
@@ -213,7 +212,7 @@ pub fn amv_seek_to_via_index(
     ensures { WalkerCall 2 (seek_answer table.now stream request) (seek_walker table.now stream request)
         walker.old result out.new walker.new }
 {
-    let WalkerState::Legal(state) = walker_of(*walker) else {
+    let Some(state) = walker_of(*walker) else {
         *out = [0, 0];
         return ILLEGAL_STATE;
     };
@@ -222,11 +221,11 @@ pub fn amv_seek_to_via_index(
     *walker = walker_words(next);
     let result = sought.result;
     match result {
-        SeekResult::Ok(stamp) => {
+        Ok(stamp) => {
             *out = [0, stamp];
             0
         }
-        SeekResult::Err(e) => {
+        Err(e) => {
             *out = [e.place(), 0];
             e.number()
         }
@@ -307,17 +306,17 @@ pub fn amv_register_step(
     ensures { StepCall file.now table.now walker.old block.old
         result out.new walker.new block.new }
 {
-    let WalkerState::Legal(state) = walker_of(*walker) else {
+    let Some(state) = walker_of(*walker) else {
         *out = [0; 7];
         return ILLEGAL_STATE;
     };
     match command_in(block) {
-        CommandResult::Err(e) => {
+        Err(e) => {
             *walker = walker_words(state);
             *out = [e.place(), 0, 0, 0, 0, 0, 0];
             e.number()
         }
-        CommandResult::Ok(command) => {
+        Ok(command) => {
             let told = perform(file, table, state, walker, command, out);
             write_block(block, told, walker[4] == 1, walker[5] == 1);
             0
@@ -330,7 +329,7 @@ pub fn amv_write_header(writer: &mut [u64; 9], buf: &mut [u8], out: &mut [u64; 1
     ensures { WriterCall (λ w. header_call w buf.old)
         writer.old buf.old result out.new writer.new buf.new }
 {
-    let WriterState::Legal(state) = writer_of(*writer) else {
+    let Some(state) = writer_of(*writer) else {
         *out = [0];
         return ILLEGAL_STATE;
     };
@@ -352,7 +351,7 @@ pub fn amv_write_packet(
     ensures { WriterCall (λ w. packet_call w payload.now stream buf.old)
         writer.old buf.old result out.new writer.new buf.new }
 {
-    let WriterState::Legal(state) = writer_of(*writer) else {
+    let Some(state) = writer_of(*writer) else {
         *out = [0];
         return ILLEGAL_STATE;
     };
@@ -363,11 +362,11 @@ pub fn amv_write_packet(
     // Answered here and not by result_out: packets are many, and the call alone would take a third of the time.
     let result = wrote.result;
     match result {
-        AmvResult::Ok => {
+        Ok(()) => {
             *out = [0];
             0
         }
-        AmvResult::Err(e) => {
+        Err(e) => {
             *out = [e.place()];
             e.number()
         }
@@ -379,7 +378,7 @@ pub fn amv_write_trailer(writer: &mut [u64; 9], buf: &mut [u8], out: &mut [u64; 
     ensures { WriterCall (λ w. trailer_call w buf.old)
         writer.old buf.old result out.new writer.new buf.new }
 {
-    let WriterState::Legal(state) = writer_of(*writer) else {
+    let Some(state) = writer_of(*writer) else {
         *out = [0];
         return ILLEGAL_STATE;
     };

@@ -1,6 +1,6 @@
 -- Document 01's ten cases, "proved as one group", and what 02 says of them. Assumes nothing.
 use Rattle.std.specs.Prelude.{◌≡◌, true, false, List, [], ◌∷◌, ◌++◌, ℕ, pos, negsuc, length, take}
-use Rattle.std.proofs.Math.Option.{some}
+use Rattle.std.specs.Option.{Option, None, Some}
 use Rattle.error.specs.Answer.{accepted, refused, numbered}
 use Rattle.duration.specs.Duration.{packed_of, run_length}
 use Rattle.duration.specs.OnlyAboveCap.{run_length_before}
@@ -12,7 +12,6 @@ use Rattle.parse.specs.declared.header.AmvHeader.{AmvHeader}
 use Rattle.parse.specs.declared.wave_format.AmvWaveFormat.{AmvWaveFormat}
 use Rattle.demuxer.specs.Read.{ReadAnswer, packet, End, fresh, read_of}
 use Rattle.demuxer.specs.declared.position.Position.{Position}
-use Rattle.demuxer.specs.declared.walker.Trailer.TheVariants.{NotMet}
 use Rattle.chunk_index.specs.Entry.{table_bytes}
 use Rattle.chunk_index.specs.Index.{index_of}
 use Rattle.chunk_index.specs.Summary.{summary_of}
@@ -98,14 +97,14 @@ pub record Cases : Type 0 where
   pub size : length E ≡ 353
   pub indexed : index_of E ≡ accepted (first_record ∷ second_record ∷ [])
   -- (7) E, sound seek to 1: end, cursor 335, frames 1, samples 0, blocks 1
-  pub seven : (seek_of own_index fresh 1 (pos 1)).walker ≡ record { position = position 335 1 0 1; end = true; cut = false; trailer = NotMet }
+  pub seven : (seek_of own_index fresh 1 (pos 1)).walker ≡ record { position = position 335 1 0 1; end = true; cut = false; trailer = None }
   -- "The stream's stamp is returned."
   pub seven_stamp : (seek_of own_index fresh 1 (pos 1)).answer ≡ accepted 0
   -- (8) E, frame seek to -5: cursor 316, stamp 0 returned
-  pub eight_walker : (seek_of own_index fresh 0 (negsuc 4)).walker ≡ record { position = position 316 0 0 0; end = false; cut = false; trailer = NotMet }
+  pub eight_walker : (seek_of own_index fresh 0 (negsuc 4)).walker ≡ record { position = position 316 0 0 0; end = false; cut = false; trailer = None }
   pub eight_stamp : (seek_of own_index fresh 0 (negsuc 4)).answer ≡ accepted 0
   -- (9) E cut to 344: one packet, two records; to 343: two records; to 342: one
-  pub nine_packet : first_read 344 ≡ packet (record { stream = 0; payload = 1 ∷ 2 ∷ 3 ∷ []; stamp = 0; duration = some 1 })
+  pub nine_packet : first_read 344 ≡ packet (record { stream = 0; payload = 1 ∷ 2 ∷ 3 ∷ []; stamp = 0; duration = Some 1 })
   pub nine_end : second_read 344 ≡ End
   pub nine_344 : index_of (take 344 E) ≡ accepted (first_record ∷ second_record ∷ [])
   pub nine_343 : index_of (take 343 E) ≡ accepted (first_record ∷ second_record ∷ [])

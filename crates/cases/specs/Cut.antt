@@ -1,12 +1,12 @@
 -- Document 02's supply drop, M-107, on document 01's small file: E cut to every length from 0 to 353, and what each call then says of it; and E while
 -- it is written. recording/Cut claims it of every finished recording; here each number is written down, from the layout of E. Assumes nothing.
 use Rattle.std.specs.Prelude.{◌≡◌, true, false, List, [], ◌∷◌, ◌++◌, map, ℕ, zero, suc, ◌-◌, take, replicate}
+use Rattle.std.specs.Option.{Option, None, Some}
 use Rattle.error.specs.Answer.{Answer, accepted}
 use Rattle.prelude.specs.Prelude.{parse_of}
 use Rattle.prelude.specs.declared.prelude.AmvPrelude.{AmvPrelude}
 use Rattle.demuxer.specs.Packet.{Shown}
 use Rattle.demuxer.specs.Read.{ReadAnswer, packet, End, refused, fresh, read_of}
-use Rattle.demuxer.specs.declared.walker.Trailer.TheVariants.{At, NotMet}
 use Rattle.demuxer.specs.declared.walker.Walker.{Walker}
 use Rattle.chunk_index.specs.Index.{index_of}
 use Rattle.chunk_index.specs.Summary.{summary_of}
@@ -74,7 +74,7 @@ says parse check packets w records =
 
 -- "then End with cut set": at a cursor, with frames, samples and blocks
 abbrev pub cut_at : ℕ → ℕ → ℕ → ℕ → Walker
-cut_at cursor frames samples blocks = marked true true NotMet (walker_at cursor frames samples blocks)
+cut_at cursor frames samples blocks = marked true true None (walker_at cursor frames samples blocks)
 
 -- "the prelude reading refuses a file shorter than 316 with 11", here at a place; so does the check, and a first read answers End
 abbrev pub shorter : ℕ → Told
@@ -92,7 +92,7 @@ stopped cursor frames samples blocks packets records = says opened (no 60 cursor
 abbrev pub whole : Told
 whole =
     says opened (accepted (record { frames = 1; blocks = 1; samples = 2; trailer = 345; paired = true })) (picture ∷ sound ∷ [])
-    (marked true false (At 345) (walker_at 345 1 2 1)) (first_record ∷ second_record ∷ [])
+    (marked true false (Some 345) (walker_at 345 1 2 1)) (first_record ∷ second_record ∷ [])
 
 -- rows from a length on: a row is for the lengths below its number, from the number of the row before it on
 abbrev pub filled : ℕ → List (ℕ × Told) → List Told

@@ -1,13 +1,12 @@
 -- Reads and jumps on a recording that is cut, call by call: what each answers, the walker that it leaves, and what the machine of the file says of it,
 -- written down from the layout of a small recording. recording/Indexed and recording/CutJumps claim it of every file and every list. Assumes nothing.
 use Rattle.std.specs.Prelude.{◌≡◌, Bool, true, false, List, [], ◌∷◌, ◌++◌, map, ℕ, pos, negsuc, length, take}
-use Rattle.std.proofs.Math.Option.{some}
+use Rattle.std.specs.Option.{Option, None, Some}
 use Rattle.error.specs.Answer.{accepted}
 use Rattle.chunk.specs.Chunk.{video_tag, audio_tag, trailer_bytes}
 use Rattle.prelude.specs.Built.{prelude_bytes}
 use Rattle.demuxer.specs.Packet.{Shown}
 use Rattle.demuxer.specs.Read.{packet, End, fresh}
-use Rattle.demuxer.specs.declared.walker.Trailer.TheVariants.{At, NotMet}
 use Rattle.demuxer.specs.declared.walker.Walker.{Walker}
 use Rattle.walk.specs.Chunks.{Chunk, chunk_of, chunks_bytes}
 use Rattle.walk.specs.Walk.{file_walk}
@@ -45,10 +44,10 @@ J = after316 (prelude_bytes 8 8 12 0 8000 1)
 
 -- its third and fourth packet, and their records
 abbrev pub second_picture : Shown
-second_picture = record { stream = 0; payload = 4 ∷ []; stamp = 1; duration = some 1 }
+second_picture = record { stream = 0; payload = 4 ∷ []; stamp = 1; duration = Some 1 }
 
 abbrev pub second_sound : Shown
-second_sound = record { stream = 1; payload = last_payload; stamp = 2; duration = some 5 }
+second_sound = record { stream = 1; payload = last_payload; stamp = 2; duration = Some 5 }
 
 abbrev pub three_records : List ChunkIndexEntry
 three_records = first_record ∷ second_record ∷ record { tag = video_tag; position = position 345 1 2 1 } ∷ []
@@ -105,50 +104,50 @@ pub record Jumps : Type 0 where
   pub cut :
       FromFresh (take 370 J) four_records
       (row (seek 1 (pos 1)) (seek_answer (accepted 2)) (goes 2) 3 false (walker_at 354 2 2 1)
-      ∷ ended 3 true (marked true true NotMet (walker_at 354 2 2 1))
-      ∷ ended 3 true (marked true true NotMet (walker_at 354 2 2 1))
-      ∷ row (seek 0 (pos 1)) (seek_answer (accepted 1)) (goes 1) 2 true (marked false true NotMet (walker_at 345 1 2 1))
-      ∷ gave second_picture 3 true (marked false true NotMet (walker_at 354 2 2 1))
-      ∷ ended 3 true (marked true true NotMet (walker_at 354 2 2 1))
-      ∷ unlike (marked true true NotMet (walker_at 354 2 2 1)) 3 true
-      ∷ row (seek 1 (pos 3)) (seek_answer (accepted 2)) goes_to_end 4 true (marked true true NotMet (walker_at 362 2 2 2))
-      ∷ ended 4 true (marked true true NotMet (walker_at 362 2 2 2))
-      ∷ row (seek 0 (negsuc 0)) (seek_answer (accepted 0)) (goes 0) 0 true (marked false true NotMet (walker_at 316 0 0 0)) ∷ [])
+      ∷ ended 3 true (marked true true None (walker_at 354 2 2 1))
+      ∷ ended 3 true (marked true true None (walker_at 354 2 2 1))
+      ∷ row (seek 0 (pos 1)) (seek_answer (accepted 1)) (goes 1) 2 true (marked false true None (walker_at 345 1 2 1))
+      ∷ gave second_picture 3 true (marked false true None (walker_at 354 2 2 1))
+      ∷ ended 3 true (marked true true None (walker_at 354 2 2 1))
+      ∷ unlike (marked true true None (walker_at 354 2 2 1)) 3 true
+      ∷ row (seek 1 (pos 3)) (seek_answer (accepted 2)) goes_to_end 4 true (marked true true None (walker_at 362 2 2 2))
+      ∷ ended 4 true (marked true true None (walker_at 362 2 2 2))
+      ∷ row (seek 0 (negsuc 0)) (seek_answer (accepted 0)) (goes 0) 0 true (marked false true None (walker_at 316 0 0 0)) ∷ [])
   -- a jump to the end looks at nothing: the End after it is not the file's, and cut is not set
   pub sent :
       FromFresh (take 370 J) four_records
-      (row (seek 0 (pos 2)) (seek_answer (accepted 2)) goes_to_end 4 false (marked true false NotMet (walker_at 362 2 2 2))
-      ∷ ended 4 false (marked true false NotMet (walker_at 362 2 2 2)) ∷ [])
+      (row (seek 0 (pos 2)) (seek_answer (accepted 2)) goes_to_end 4 false (marked true false None (walker_at 362 2 2 2))
+      ∷ ended 4 false (marked true false None (walker_at 362 2 2 2)) ∷ [])
   -- Cut to 369 bytes the last block has no record: sound 1 is the end, and after the packets End is there
   pub shorter :
       FromFresh (take 369 J) three_records
-      (row (seek 1 (pos 1)) (seek_answer (accepted 2)) goes_to_end 3 false (marked true false NotMet (walker_at 353 2 2 1))
+      (row (seek 1 (pos 1)) (seek_answer (accepted 2)) goes_to_end 3 false (marked true false None (walker_at 353 2 2 1))
       ∷ row (seek 1 (pos 0)) (seek_answer (accepted 0)) (goes 0) 1 false (walker_at 327 1 0 0)
       ∷ gave sound 2 false (walker_at 345 1 2 1) ∷ gave second_picture 3 false (walker_at 354 2 2 1)
-      ∷ ended 3 true (marked true true NotMet (walker_at 354 2 2 1)) ∷ [])
+      ∷ ended 3 true (marked true true None (walker_at 354 2 2 1)) ∷ [])
   -- a frame that is cut has a record and no packet
   pub cut_frame :
       FromFresh (take 353 J) three_records
       (row (seek 0 (pos 1)) (seek_answer (accepted 1)) (goes 1) 2 false (walker_at 345 1 2 1)
-      ∷ ended 2 true (marked true true NotMet (walker_at 345 1 2 1)) ∷ [])
+      ∷ ended 2 true (marked true true None (walker_at 345 1 2 1)) ∷ [])
   -- The whole of it: sound 1 in the same place, with the same stamp; its packet; the trailer, which stays met; cut is never set
   pub whole :
       FromFresh J four_records
       (row (seek 1 (pos 1)) (seek_answer (accepted 2)) (goes 2) 3 false (walker_at 354 2 2 1)
-      ∷ gave second_sound 4 false (walker_at 371 2 7 2) ∷ ended 4 true (marked true false (At 371) (walker_at 371 2 7 2))
-      ∷ row (seek 0 (pos 1)) (seek_answer (accepted 1)) (goes 1) 2 true (marked false false (At 371) (walker_at 345 1 2 1)) ∷ [])
+      ∷ gave second_sound 4 false (walker_at 371 2 7 2) ∷ ended 4 true (marked true false (Some 371) (walker_at 371 2 7 2))
+      ∷ row (seek 0 (pos 1)) (seek_answer (accepted 1)) (goes 1) 2 true (marked false false (Some 371) (walker_at 345 1 2 1)) ∷ [])
   -- any prelude, here of zeros, and any bytes after the trailer
   pub any_prelude :
       FromFresh (after316 (zeroed 316) ++ zeroed 9) four_records
       (gave picture 1 false (walker_at 327 1 0 0)
       ∷ row (seek 1 (pos 1)) (seek_answer (accepted 2)) (goes 2) 3 false (walker_at 354 2 2 1)
-      ∷ gave second_sound 4 false (walker_at 371 2 7 2) ∷ ended 4 true (marked true false (At 371) (walker_at 371 2 7 2)) ∷ [])
+      ∷ gave second_sound 4 false (walker_at 371 2 7 2) ∷ ended 4 true (marked true false (Some 371) (walker_at 371 2 7 2)) ∷ [])
   -- no record, and fewer than 316 bytes: the end is where a fresh walker stands
   pub empty :
       FromFresh [] []
-      (row (seek 0 (pos 0)) (seek_answer (accepted 0)) goes_to_end 0 false (marked true false NotMet fresh)
-      ∷ ended 0 false (marked true false NotMet fresh) ∷ [])
-  pub empty_read : FromFresh [] [] (ended 0 true (marked true true NotMet fresh) ∷ [])
+      (row (seek 0 (pos 0)) (seek_answer (accepted 0)) goes_to_end 0 false (marked true false None fresh)
+      ∷ ended 0 false (marked true false None fresh) ∷ [])
+  pub empty_read : FromFresh [] [] (ended 0 true (marked true true None fresh) ∷ [])
   -- in the cut file a jump goes to the chunk to which it goes in the whole, where this has a record there, else to the end
   pub goes_there : (first 1 (pos 1) (drain chunks) ≡ 3) × (first 1 (pos 1) (drain (recorded_in J 370)) ≡ 3) × (length (recorded_in J 370) ≡ 4)
   pub goes_to_end_lem : (first 1 (pos 1) (drain (recorded_in J 369)) ≡ 3) × (length (recorded_in J 369) ≡ 3)

@@ -1,5 +1,6 @@
 -- A case for every number of document 01, from its text, with the smallest input; and a recording that tells the totals apart. Assumes nothing.
 use Rattle.std.specs.Prelude.{◌≡◌, Bool, true, false, List, [], ◌∷◌, ◌++◌, ℕ, ◌+◌, ◌-◌, ◌^◌, pos, length, take, replicate}
+use Rattle.std.specs.Option.{Option, None, Some}
 use Rattle.error.specs.Answer.{Answer, accepted, refused, numbered}
 use Rattle.fields.specs.Le.{put}
 use Rattle.chunk.specs.Chunk.{video_tag, audio_tag, trailer_bytes, chunk_header_of}
@@ -11,7 +12,6 @@ use Rattle.prelude.specs.Prelude.{parse_of, strict_of}
 use Rattle.prelude.specs.declared.prelude.AmvPrelude.{AmvPrelude}
 use Rattle.demuxer.specs.Read.{ReadAnswer, End, fresh, read_of}
 use Rattle.demuxer.specs.Read as read
-use Rattle.demuxer.specs.declared.walker.Trailer.TheVariants.{NotMet}
 use Rattle.demuxer.specs.declared.walker.Walker.{Walker}
 use Rattle.walk.specs.Chunks.{Chunk, chunk_of, chunks_bytes}
 use Rattle.chunk_index.specs.Entry.{entry_bytes}
@@ -40,10 +40,10 @@ then bytes = P ++ bytes
 
 -- a walker with these four counts, ended or not
 abbrev pub walker_at : ℕ → ℕ → ℕ → ℕ → Walker
-walker_at cursor frames samples blocks = record { position = position cursor frames samples blocks; end = false; cut = false; trailer = NotMet }
+walker_at cursor frames samples blocks = record { position = position cursor frames samples blocks; end = false; cut = false; trailer = None }
 
 abbrev pub over : Walker
-over = record { position = position 0 0 0 0; end = true; cut = false; trailer = NotMet }
+over = record { position = position 0 0 0 0; end = true; cut = false; trailer = None }
 
 abbrev pub reads : List ℕ → Walker → ReadAnswer
 reads file w = (read_of file w).answer

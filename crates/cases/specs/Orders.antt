@@ -1,5 +1,6 @@
 -- Which question comes first where several are answered with no, and what a number stands for. Assumes nothing.
 use Rattle.std.specs.Prelude.{◌≡◌, Bool, true, false, ◌&&◌, List, [], ◌∷◌, ◌++◌, ℕ, ◌+◌, ◌^◌, eqb, pos, length, take, drop}
+use Rattle.std.specs.Option.{Option, None, Some}
 use Rattle.error.specs.Answer.{Answer, accepted, numbered, number_of, place_of}
 use Rattle.fields.specs.Le.{put}
 use Rattle.duration.specs.Duration.{packed_of, unpacked_of, run_length}
@@ -12,7 +13,6 @@ use Rattle.prelude.specs.declared.prelude.AmvPrelude.{AmvPrelude}
 use Rattle.demuxer.specs.Position.{InRange}
 use Rattle.demuxer.specs.Read.{fresh}
 use Rattle.demuxer.specs.Read as read
-use Rattle.demuxer.specs.declared.walker.Trailer.TheVariants.{NotMet}
 use Rattle.demuxer.specs.declared.walker.Walker.{Walker}
 use Rattle.chunk_index.specs.Entry.{entries_of}
 use Rattle.table.specs.Table.{good_entry}
@@ -83,7 +83,7 @@ pub record Orders : Type 0 where
       (0 ∷ 8 ∷ 12 ∷ 20 ∷ 24 ∷ 28 ∷ 32 ∷ 88 ∷ 96 ∷ 100 ∷ 104 ∷ 164 ∷ 168 ∷ 208 ∷ 216 ∷ 220 ∷ 224 ∷ 276 ∷ 280 ∷ 284 ∷ 304 ∷ 312 ∷ [])
       ≡ true
   -- a read: 32 before "Ended"; the check: 10 to 24 before the chunks
-  pub ended_late : reads [] (record { position = position (2 ^ 62 + 1) 0 0 0; end = true; cut = false; trailer = NotMet }) ≡ read.refused (numbered 32 0)
+  pub ended_late : reads [] (record { position = position (2 ^ 62 + 1) 0 0 0; end = true; cut = false; trailer = None }) ≡ read.refused (numbered 32 0)
   pub check_prelude : check_of (put (then (zeroed 8)) 76 (0 ∷ [])) ≡ no 16 76
   -- a seek, by 02 (M-104): 42, then 41, then 43, then 32
   pub stream_first_lem : seeks (zeroed 25) farther 2 ≡ no 42 0

@@ -1,9 +1,9 @@
 -- The order of the words in C: each word of a state and of an answer is another number. Assumes nothing.
 use Rattle.std.specs.Prelude.{◌≡◌, true, false, List, [], ◌∷◌, ℕ, ◌-◌, ◌^◌, pos, replicate}
+use Rattle.std.specs.Option.{Option, None, Some}
 use Rattle.error.specs.Answer.{Answer, accepted, refused, numbered}
 use Rattle.fields.specs.Le.{put}
 use Rattle.prelude.specs.Built.{prelude_bytes}
-use Rattle.demuxer.specs.declared.walker.Trailer.TheVariants.{At, NotMet}
 use Rattle.words.specs.State.{walker_of, walker_words, writer_of, writer_words}
 use Rattle.capi.specs.Calls.{parse_answer, next_answer, seek_answer, index_answer, page_answer, summary_answer, check_answer}
 use Rattle.cases.specs.Cases.{position, own_index}
@@ -20,9 +20,9 @@ illegal = refused (numbered 1 0)
 
 pub record Words : Type 0 where
   -- "walker: cursor, frames, samples, blocks, end, cut, trailer offset or UINT64_MAX"
-  pub walker : walker_words (record { position = position 10 11 12 13; end = true; cut = false; trailer = At 14 }) ≡ 10 ∷ 11 ∷ 12 ∷ 13 ∷ 1 ∷ 0 ∷ 14 ∷ []
+  pub walker : walker_words (record { position = position 10 11 12 13; end = true; cut = false; trailer = Some 14 }) ≡ 10 ∷ 11 ∷ 12 ∷ 13 ∷ 1 ∷ 0 ∷ 14 ∷ []
   pub walker_cut :
-      walker_words (record { position = position 10 11 12 13; end = false; cut = true; trailer = NotMet })
+      walker_words (record { position = position 10 11 12 13; end = false; cut = true; trailer = None })
       ≡ 10 ∷ 11 ∷ 12 ∷ 13 ∷ 0 ∷ 1 ∷ 18446744073709551615 ∷ []
   -- "writer: width, height, fps, rate, channels, begun, ended, written, frames"
   pub writer :
@@ -56,7 +56,7 @@ pub record Words : Type 0 where
   pub cut_2 : walker_of (0 ∷ 0 ∷ 0 ∷ 0 ∷ 0 ∷ 2 ∷ 0 ∷ []) ≡ illegal
   pub large :
       walker_of (2 ^ 63 ∷ 2 ^ 63 ∷ 2 ^ 63 ∷ 2 ^ 63 ∷ 1 ∷ 1 ∷ 2 ^ 63 ∷ [])
-      ≡ accepted (record { position = position (2 ^ 63) (2 ^ 63) (2 ^ 63) (2 ^ 63); end = true; cut = true; trailer = At (2 ^ 63) })
+      ≡ accepted (record { position = position (2 ^ 63) (2 ^ 63) (2 ^ 63) (2 ^ 63); end = true; cut = true; trailer = Some (2 ^ 63) })
   pub width : writer_of (writer_with 0 (2 ^ 32)) ≡ illegal
   pub height : writer_of (writer_with 1 (2 ^ 32)) ≡ illegal
   pub fps : writer_of (writer_with 2 (2 ^ 32)) ≡ illegal

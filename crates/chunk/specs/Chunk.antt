@@ -1,5 +1,7 @@
 -- A chunk's tag, kind and header. Assumes nothing.
 use Rattle.std.specs.Prelude.{ℕ, ◌+◌, cond, List, [], ◌∷◌, leb, eqb, length}
+use Rattle.std.specs.Result.{Result, Ok, Err}
+use Rattle.error.specs.declared.AmvError.{AmvError}
 use Rattle.error.specs.Answer.{Answer, accepted, refused, ask}
 use Rattle.error.specs.Refusal.{refusal_of}
 use Rattle.fields.specs.Capped.{u32_max}
@@ -7,8 +9,6 @@ use Rattle.fields.specs.Le.{le}
 use Rattle.chunk.specs.declared.ChunkKind.{ChunkKind}
 use Rattle.chunk.specs.declared.ChunkKind.TheVariants.{Video, Audio, Other}
 use Rattle.chunk.specs.declared.ChunkHeader.{ChunkHeader}
-use Rattle.chunk.specs.declared.ChunkHeaderResult.{ChunkHeaderResult}
-use Rattle.chunk.specs.declared.ChunkHeaderResult.TheVariants.{Ok, Err}
 
 -- 01: "tag `00dc` (stream 0) or `01wb` (stream 1)", as little-endian numbers; `Tags` spells them out
 abbrev pub video_tag : ℕ
@@ -49,6 +49,3 @@ chunk_header_of s = ask (leb 8 (length s)) 29 0 (accepted (record { tag = le 4 s
 unfoldable pub chunk_header_at : List ℕ → ℕ → Answer ChunkHeader
 chunk_header_at file at = ask (leb (at + 8) (length file)) 29 0 (accepted (record { tag = le 4 file at; size = le 4 file (at + 4) }))
 
-abbrev pub said_chunk_header : ChunkHeaderResult → Answer ChunkHeader
-said_chunk_header (Ok h) = accepted h
-said_chunk_header (Err e) = refused (refusal_of e)

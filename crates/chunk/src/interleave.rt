@@ -5,47 +5,47 @@ ghost use Rattle.chunk.specs.Chunk.{kind_of};
 ghost use Rattle.chunk.specs.Interleave.{interleave, interleave_at};
 
 use crate::ChunkKind;
-use error::{AmvError, AmvResult};
+use error::AmvError;
 
 // What a chunk at a position is asked: frames stand at even positions (62), sound at odd ones (63), and nothing else stands (64).
-pub fn interleave_at(tag: u32, position: u64) -> AmvResult
+pub fn interleave_at(tag: u32, position: u64) -> Result<(), AmvError>
     ensures { said result ≡ interleave_at (kind_of tag) position }
 {
     let even = position % 2 == 0;
     match ChunkKind::classify(tag) {
         ChunkKind::Video => {
             if even {
-                AmvResult::Ok
+                Ok(())
             } else {
-                AmvResult::Err(AmvError::VideoAtOddPosition(position))
+                Err(AmvError::VideoAtOddPosition(position))
             }
         }
         ChunkKind::Audio => {
             if even {
-                AmvResult::Err(AmvError::AudioAtEvenPosition(position))
+                Err(AmvError::AudioAtEvenPosition(position))
             } else {
-                AmvResult::Ok
+                Ok(())
             }
         }
-        ChunkKind::Other(_) => AmvResult::Err(AmvError::OtherAtPosition(position)),
+        ChunkKind::Other(_) => Err(AmvError::OtherAtPosition(position)),
     }
 }
 
 // Whether chunk tags alternate as a device writes them: the first position refused with 62, 63 or 64, then an odd count with 65.
-pub fn validate_movi_interleave(tags: &[u32]) -> AmvResult
+pub fn validate_movi_interleave(tags: &[u32]) -> Result<(), AmvError>
     ensures { said result ≡ interleave tags.now }
 {
     let mut i = 0;
     while i < tags.len() {
         let at = interleave_at(tags[i], i as u64);
-        let AmvResult::Ok = at else {
+        let Ok(()) = at else {
             return at;
         };
         i += 1;
     }
     if i % 2 == 0 {
-        AmvResult::Ok
+        Ok(())
     } else {
-        AmvResult::Err(AmvError::OddChunkCount(i as u64))
+        Err(AmvError::OddChunkCount(i as u64))
     }
 }

@@ -4,7 +4,7 @@
 pub mod interleave;
 
 ghost use Rattle.std.specs.Prelude.{◌≡◌};
-ghost use Rattle.chunk.specs.Chunk.{kind_of, tag_of, stream_tag, advance_total, said_chunk_header, chunk_header_of, chunk_header_at};
+ghost use Rattle.chunk.specs.Chunk.{kind_of, tag_of, stream_tag, advance_total, said, chunk_header_of, chunk_header_at};
 
 use error::AmvError;
 
@@ -76,35 +76,28 @@ pub struct ChunkHeader {
     pub size: u32,
 }
 
-// What `ChunkHeader::parse` and `parse_at` answer.
-#[derive(Clone, Copy)]
-pub enum ChunkHeaderResult {
-    Ok(ChunkHeader),
-    Err(AmvError),
-}
-
 impl ChunkHeader {
     // The header at a slice's start; fewer than 8 bytes are refused with 29. Tag and length may be anything.
-    pub fn parse(slice: &[u8]) -> ChunkHeaderResult
-        ensures { said_chunk_header result ≡ chunk_header_of slice.now }
+    pub fn parse(slice: &[u8]) -> Result<ChunkHeader, AmvError>
+        ensures { said result ≡ chunk_header_of slice.now }
     {
         ChunkHeader::parse_at(slice, 0)
     }
 
     // The header at an offset of a file, read where it stands: what `parse` answers of the bytes from there, 29 where fewer than 8 are left.
     // Every walk over a file reads by it.
-    pub fn parse_at(file: &[u8], at: usize) -> ChunkHeaderResult
-        ensures { said_chunk_header result ≡ chunk_header_at file.now at }
+    pub fn parse_at(file: &[u8], at: usize) -> Result<ChunkHeader, AmvError>
+        ensures { said result ≡ chunk_header_at file.now at }
     {
         if file.len() < 8 {
-            return ChunkHeaderResult::Err(AmvError::ChunkHeaderTooShort);
+            return Err(AmvError::ChunkHeaderTooShort);
         }
         if file.len() - 8 < at {
-            return ChunkHeaderResult::Err(AmvError::ChunkHeaderTooShort);
+            return Err(AmvError::ChunkHeaderTooShort);
         }
         let tag = fields::read_u32_le(file, at);
         let size = fields::read_u32_le(file, at + 4);
-        ChunkHeaderResult::Ok(ChunkHeader { tag, size })
+        Ok(ChunkHeader { tag, size })
     }
 
     // The distance from this chunk to the next one. Refuses nothing.

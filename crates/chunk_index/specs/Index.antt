@@ -1,5 +1,7 @@
 -- `build_chunk_index`. Assumes nothing.
 use Rattle.std.specs.Prelude.{ℕ, ◌+◌, ◌*◌, min, Bool, true, cond, List, [], ◌∷◌, leb, length}
+use Rattle.std.specs.Result.{Result, Ok, Err}
+use Rattle.error.specs.declared.AmvError.{AmvError}
 use Rattle.error.specs.Answer.{Answer, accepted, refused, numbered, ask, and_then}
 use Rattle.error.specs.Refusal.{refusal_of}
 use Rattle.fields.specs.File.{within_limit}
@@ -13,8 +15,6 @@ use Rattle.walk.specs.declared.Kind.{Kind}
 use Rattle.walk.specs.declared.Kind.TheVariants.{Frame, Sound}
 use Rattle.chunk_index.specs.Entry.{entry_len, entry, table_bytes}
 use Rattle.chunk_index.specs.declared.entry.ChunkIndexEntry.{ChunkIndexEntry}
-use Rattle.chunk_index.specs.declared.index.IndexResult.{IndexResult}
-use Rattle.chunk_index.specs.declared.index.IndexResult.TheVariants as index
 
 -- 01: "A frame is recorded though its body is cut; sound only if min(8, length) payload bytes are there."
 abbrev pub recorded : Kind → List ℕ → ℕ → Bool
@@ -56,6 +56,3 @@ unfoldable pub build_of : List ℕ → List ℕ → Built
 build_of file table =
     built_from table (and_then (index_of file) (λ es. ask (leb (entry_len * length es) (length table)) 40 0 (accepted es)))
 
-abbrev pub said_index : IndexResult → Answer ℕ
-said_index (index.Ok n) = accepted n
-said_index (index.Err e) = refused (refusal_of e)

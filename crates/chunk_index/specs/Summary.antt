@@ -1,5 +1,7 @@
 -- The summary. Assumes nothing.
 use Rattle.std.specs.Prelude.{cond, List, ℕ, ◌+◌, eqb}
+use Rattle.std.specs.Result.{Result, Ok, Err}
+use Rattle.error.specs.declared.AmvError.{AmvError}
 use Rattle.error.specs.Answer.{Answer, accepted, refused, ask, and_then}
 use Rattle.error.specs.Refusal.{refusal_of}
 use Rattle.fields.specs.File.{within_limit}
@@ -9,8 +11,6 @@ use Rattle.walk.specs.declared.Kind.{Kind}
 use Rattle.walk.specs.declared.Kind.TheVariants.{Frame, Sound}
 use Rattle.chunk_index.specs.Index.{recorded, tags_known}
 use Rattle.chunk_index.specs.declared.summary.ChunkCounts.{ChunkCounts}
-use Rattle.chunk_index.specs.declared.summary.SummaryResult.{SummaryResult}
-use Rattle.chunk_index.specs.declared.summary.SummaryResult.TheVariants.{Ok, Err}
 
 abbrev pub none_counted : ChunkCounts
 none_counted = record { frames = 0; blocks = 0 }
@@ -31,6 +31,3 @@ unfoldable pub summary_of : List ℕ → Answer ChunkCounts
 summary_of file =
     ask (within_limit file) 10 0 (and_then (tags_known prelude_len (file_walk file)) (λ _. accepted (counts_from none_counted (file_walk file))))
 
-abbrev pub said_summary : SummaryResult → Answer ChunkCounts
-said_summary (Ok s) = accepted s
-said_summary (Err e) = refused (refusal_of e)

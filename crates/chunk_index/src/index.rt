@@ -5,7 +5,7 @@ ghost use Rattle.fields.specs.Le.{put};
 ghost use Rattle.demuxer.specs.Position.{start};
 ghost use Rattle.walk.specs.Walk.{file_walk};
 ghost use Rattle.chunk_index.specs.Entry.{entry_len, table_bytes};
-ghost use Rattle.chunk_index.specs.Index.{records, build_of, said_index};
+ghost use Rattle.chunk_index.specs.Index.{records, build_of, said};
 ghost use Rattle.chunk_index.specs.Steps.{recorded_at, count_records};
 
 use crate::entry::ChunkIndexEntry;
@@ -14,13 +14,6 @@ use demuxer::position::Position;
 use demuxer::walker::Walker;
 use error::AmvError;
 use walk::{ChunkAt, Kind, Step, step_at};
-
-// The number of records, or a refusal.
-#[derive(Clone, Copy)]
-pub enum IndexResult {
-    Ok(usize),
-    Err(AmvError),
-}
 
 // Whether a chunk of the walk gets a record: a frame always, sound where min(8, length) bytes of its payload are there.
 fn recorded(chunk: ChunkAt) -> bool
@@ -35,26 +28,26 @@ fn recorded(chunk: ChunkAt) -> bool
 }
 
 // Counts the records of the walk. It reads headers only.
-fn count_records(file: &[u8]) -> IndexResult
+fn count_records(file: &[u8]) -> Result<usize, AmvError>
     requires { length file.now ≤ file_limit }
-    ensures { said_index result ≡ count_records file.now }
+    ensures { said result ≡ count_records file.now }
 {
     let mut at: usize = Walker::START as usize;
     let mut count: usize = 0;
     loop {
         match step_at(file, at) {
             Step::RanOut => {
-                return IndexResult::Ok(count);
+                return Ok(count);
             }
             Step::Trailer => {
-                return IndexResult::Ok(count);
+                return Ok(count);
             }
             Step::UnknownTag => {
-                return IndexResult::Err(AmvError::UnknownTag(at as u64));
+                return Err(AmvError::UnknownTag(at as u64));
             }
             Step::Chunk(chunk) => {
                 if !recorded(chunk) {
-                    return IndexResult::Ok(count);
+                    return Ok(count);
                 }
                 count += 1;
                 at += advance_total(chunk.size) as usize;
@@ -91,21 +84,21 @@ fn write_records(file: &[u8], table: &mut [u8])
 
 // Writes the records of a file's chunks to a table and answers their count; bytes after them stay. Refuses a file over the limit (10), an
 // unknown tag (31, at the chunk) and a table without room (40). Two passes, so that a table without room for all records is not touched.
-pub fn build_chunk_index(file: &[u8], table: &mut [u8]) -> IndexResult
-    ensures result_value { said_index result ≡ (build_of file.now table.old).answer }
+pub fn build_chunk_index(file: &[u8], table: &mut [u8]) -> Result<usize, AmvError>
+    ensures result_value { said result ≡ (build_of file.now table.old).answer }
     ensures table_after { table.new ≡ (build_of file.now table.old).table }
 {
     if !fields::file::within_limit(file) {
-        return IndexResult::Err(AmvError::FileTooLong);
+        return Err(AmvError::FileTooLong);
     }
     match count_records(file) {
-        IndexResult::Err(e) => IndexResult::Err(e),
-        IndexResult::Ok(count) => {
+        Err(e) => Err(e),
+        Ok(count) => {
             if table.len() / ChunkIndexEntry::LEN < count {
-                return IndexResult::Err(AmvError::TableTooShort);
+                return Err(AmvError::TableTooShort);
             }
             write_records(file, table);
-            IndexResult::Ok(count)
+            Ok(count)
         }
     }
 }

@@ -3,11 +3,11 @@ ghost use Rattle.std.specs.Prelude.{◌≡◌, ◌≤◌, length};
 ghost use Rattle.fields.specs.File.{file_limit};
 ghost use Rattle.demuxer.specs.Position.{count_limit};
 ghost use Rattle.chunk_index.specs.Steps.{IsCount};
-ghost use Rattle.chunk_index.specs.Summary.{counted, summary_of, said_summary};
+ghost use Rattle.chunk_index.specs.Summary.{counted, summary_of, said};
 
 use chunk::advance_total;
 use demuxer::walker::Walker;
-use error::{AmvError, AmvResult};
+use error::AmvError;
 use walk::{Kind, Step, step_at};
 
 // Frames and blocks.
@@ -37,19 +37,12 @@ impl ChunkCounts {
     }
 }
 
-// The counts, or a refusal.
-#[derive(Clone, Copy)]
-pub enum SummaryResult {
-    Ok(ChunkCounts),
-    Err(AmvError),
-}
-
 // What a walk counts, and whether it knows every tag. Counts and refusal do not share their bytes, as they do in a result: the loop would keep
 // the counts in pieces.
 #[derive(Clone, Copy)]
 struct Counted {
     counts: ChunkCounts,
-    known: AmvResult,
+    known: Result<(), AmvError>,
 }
 
 // Counts the whole chunks of the walk. It reads headers only.
@@ -67,19 +60,19 @@ fn count_chunks(file: &[u8]) -> Counted
             Step::RanOut => {
                 return Counted {
                     counts,
-                    known: AmvResult::Ok,
+                    known: Ok(()),
                 };
             }
             Step::Trailer => {
                 return Counted {
                     counts,
-                    known: AmvResult::Ok,
+                    known: Ok(()),
                 };
             }
             Step::UnknownTag => {
                 return Counted {
                     counts,
-                    known: AmvResult::Err(AmvError::UnknownTag(at as u64)),
+                    known: Err(AmvError::UnknownTag(at as u64)),
                 };
             }
             Step::Chunk(chunk) => {
@@ -87,7 +80,7 @@ fn count_chunks(file: &[u8]) -> Counted
                 if chunk.missing > 0 {
                     return Counted {
                         counts,
-                        known: AmvResult::Ok,
+                        known: Ok(()),
                     };
                 }
                 let kind = chunk.kind;
@@ -100,17 +93,17 @@ fn count_chunks(file: &[u8]) -> Counted
 
 // The frames and blocks that reads give of a file: those of the index's walk whose payload is whole. The index can have one record more, that
 // of the chunk in which the file ends. Refuses a file over the limit (10) and an unknown tag (31, at the chunk).
-pub fn summary(file: &[u8]) -> SummaryResult
-    ensures { said_summary result ≡ summary_of file.now }
+pub fn summary(file: &[u8]) -> Result<ChunkCounts, AmvError>
+    ensures { said result ≡ summary_of file.now }
 {
     if !fields::file::within_limit(file) {
-        return SummaryResult::Err(AmvError::FileTooLong);
+        return Err(AmvError::FileTooLong);
     }
     let counted = count_chunks(file);
     let counts = counted.counts;
     let known = counted.known;
     match known {
-        AmvResult::Ok => SummaryResult::Ok(counts),
-        AmvResult::Err(e) => SummaryResult::Err(e),
+        Ok(()) => Ok(counts),
+        Err(e) => Err(e),
     }
 }

@@ -1,6 +1,8 @@
 -- A payload that is whole, and one that is short, told by the one test of its end; and the sample count in the part that is there.
 -- Assumes nothing.
 use mathlib.Core.Path.{◌≡◌, refl, sym, ap, ◌∙◌}
+use Rattle.error.specs.Refusal.{said}
+use Rattle.std.specs.Option.{Option, None, Some}
 use mathlib.Core.Bool.{Bool, true, false, cond}
 use mathlib.Core.List.{List}
 use Prim.Native.Nat.{ℕ, ◌+◌, ◌-◌, ◌≤◌, ◌<◌, min}
@@ -19,7 +21,6 @@ use Rattle.parse.specs.declared.preamble.AmvAudioPreamble.{AmvAudioPreamble}
 use Rattle.demuxer.specs.Head.{CountIs, preamble_count, count_of}
 use Rattle.demuxer.specs.Steps.{body_at}
 use Rattle.demuxer.specs.Packet.{payload_of}
-use Rattle.demuxer.specs.declared.head.Body.TheVariants.{Whole, Short}
 use Rattle.demuxer.specs.declared.packet.Packet.{Packet}
 
 -- the count of a payload, written out
@@ -34,25 +35,25 @@ count-is payload = go (leb 8 (length payload))
     go false = refl
 
 module _ (file : List ℕ) (start size : ℕ) where
-  pub body_short : body_at file start size ≡ Short → leb (start + size) (length file) ≡ false
+  pub body_short : body_at file start size ≡ None → leb (start + size) (length file) ≡ false
   unfolding body_at
   body_short e = go _ refl e
     where
-      go : (b : Bool) → leb (start + size) (length file) ≡ b → cond b (Whole start size) Short ≡ Short
+      go : (b : Bool) → leb (start + size) (length file) ≡ b → cond b (Some (start, size)) None ≡ None
           → leb (start + size) (length file) ≡ false
       go true p q = impossible cc
       go false p q = p
 
-  pub body_whole : (s n : ℕ) → body_at file start size ≡ Whole s n → (leb (start + size) (length file) ≡ true) × (s ≡ start) × (n ≡ size)
+  pub body_whole : (s n : ℕ) → body_at file start size ≡ Some (s, n) → (leb (start + size) (length file) ≡ true) × (s ≡ start) × (n ≡ size)
   unfolding body_at
   body_whole s n e = go _ refl e
     where
-      go : (b : Bool) → leb (start + size) (length file) ≡ b → cond b (Whole start size) Short ≡ Whole s n
+      go : (b : Bool) → leb (start + size) (length file) ≡ b → cond b (Some (start, size)) None ≡ Some (s, n)
           → (leb (start + size) (length file) ≡ true) × (s ≡ start) × (n ≡ size)
       go true p q = (p, cc, cc)
       go false p q = impossible cc
 
-  pub body_placed : (s n : ℕ) → body_at file start size ≡ Whole s n → (s ≡ start) × (s + n ≤ length file)
+  pub body_placed : (s n : ℕ) → body_at file start size ≡ Some (s, n) → (s ≡ start) × (s + n ≤ length file)
   body_placed s n e =
       let b = body_whole s n e in
       let l : start + size ≤ length file = leb-true _ _ b.0 in

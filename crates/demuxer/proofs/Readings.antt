@@ -1,8 +1,8 @@
 -- A read is one of eight: what holds of each holds of every read. Assumes nothing.
 use mathlib.Core.Path.{◌≡◌, refl}
+use Rattle.std.specs.Option.{Option, None, Some}
 use mathlib.Core.Bool.{Bool, true, false, cond}
 use mathlib.Core.List.{List}
-use mathlib.Core.Option.{some}
 use Prim.Native.Nat.{ℕ, ◌+◌, ◌<◌}
 use native.Mathlib.Omega.{arith}
 use borrow.Author.Tests.{leb-false}
@@ -29,7 +29,7 @@ abbrev pub frame_read : List ℕ → Walker → ℕ → Reading
 frame_read file w size =
     record {
       answer =
-          packet (record { stream = 0; payload = payload_at file w.position.cursor size; stamp = w.position.frames.0; duration = some 1 });
+          packet (record { stream = 0; payload = payload_at file w.position.cursor size; stamp = w.position.frames.0; duration = Some 1 });
       walker = advanced w (past_frame w.position size);
     }
 

@@ -1,9 +1,9 @@
 -- 01's sentences about one read hold. Where the bytes at the cursor are given, the read is followed through them; what is said of every read
 -- goes by its eight cases. Assumes nothing.
 use mathlib.Core.Path.{◌≡◌, refl, sym, ap, ◌∙◌}
+use Rattle.std.specs.Option.{Option, None, Some}
 use mathlib.Core.Bool.{Bool, true, false}
 use mathlib.Core.List.{List, [], ◌∷◌, ◌++◌}
-use mathlib.Core.Option.{some}
 use Prim.Native.Nat.{ℕ, ◌+◌, ◌≤◌, ◌<◌}
 use native.Mathlib.Nat.{add-zero}
 use native.Mathlib.Omega.{arith}
@@ -99,7 +99,7 @@ module _ (file payload rest : List ℕ) (w : Walker) (tag : ℕ) (a : AtCursor f
 pub frame-read : (file payload rest : List ℕ) (w : Walker) → AtCursor file w (headed video_tag (length payload) (payload ++ rest)) → w.end ≡ false
     → length payload ≤ payload_limit
     → let p = w.position in
-    Gives file w (packet (record { stream = 0; payload = payload; stamp = p.frames.0; duration = some 1 }))
+    Gives file w (packet (record { stream = 0; payload = payload; stamp = p.frames.0; duration = Some 1 }))
     (moved w (p.cursor + (8 + length payload)) (p.frames.0 + 1) p.samples.0 p.blocks.0)
 unfolding read_frame
 frame-read file payload rest w a going s =

@@ -1,5 +1,8 @@
 -- One read, by what stands at the cursor. Assumes nothing.
 use mathlib.Core.Path.{◌≡◌, ◌∙◌}
+use Rattle.std.specs.Result.{Result, Ok, Err}
+use Rattle.std.specs.Option.{Option, None, Some}
+use Rattle.error.specs.declared.AmvError.{AmvError}
 use mathlib.Core.Bool.{Bool, true, false, cond}
 use mathlib.Core.List.{List}
 use Prim.Native.Nat.{ℕ, ◌+◌}
@@ -10,28 +13,24 @@ use Rattle.demuxer.specs.Packet.{packet_duration, payload_of, shown_of}
 use Rattle.fields.specs.File.{within_limit}
 use Rattle.demuxer.specs.Position.{in_range, past_frame, past_sound}
 use Rattle.demuxer.specs.Read.{End, said_read, cut_off, advanced, read_frame, read_sound, read_chunk, read_of}
-use Rattle.demuxer.specs.declared.head.Body.TheVariants.{Whole, Short}
-use Rattle.demuxer.specs.declared.packet.PacketDuration.{PacketDuration}
-use Rattle.demuxer.specs.declared.packet.PacketDuration.TheVariants.{Ticks}
 use Rattle.demuxer.specs.declared.walker.Walker.{Walker}
-use Rattle.demuxer.specs.declared.walker.NextPacket.TheVariants as next
 use Rattle.demuxer.proofs.Bodies.{body_short, body_whole}
 
 module _ (file : List ℕ) (w : Walker) (size : ℕ) where
-  pub frame_short : body_at file (w.position.cursor + 8) size ≡ Short → read_frame file w size ≡ record { answer = End; walker = cut_off w }
+  pub frame_short : body_at file (w.position.cursor + 8) size ≡ None → read_frame file w size ≡ record { answer = End; walker = cut_off w }
   unfolding read_frame
   frame_short e = rw (body_short file (w.position.cursor + 8) size e)
 
-  pub sound_short : body_at file (w.position.cursor + 8) size ≡ Short → read_sound file w size ≡ record { answer = End; walker = cut_off w }
+  pub sound_short : body_at file (w.position.cursor + 8) size ≡ None → read_sound file w size ≡ record { answer = End; walker = cut_off w }
   unfolding read_sound
   sound_short e = rw (body_short file (w.position.cursor + 8) size e)
 
   -- the packet that the code makes of a whole body, and the walker x after it
-  pub frame-whole : (s n : ℕ) (x : Walker) → body_at file (w.position.cursor + 8) size ≡ Whole s n → x ≡ advanced w (past_frame w.position size)
+  pub frame-whole : (s n : ℕ) (x : Walker) → body_at file (w.position.cursor + 8) size ≡ Some (s, n) → x ≡ advanced w (past_frame w.position size)
       → read_frame file w size
       ≡ said_read file
       (record {
-        answer = next.Packet (record { stream = 0; start = s; len = n; stamp = w.position.frames.0; duration = Ticks 1 });
+        answer = next.Packet (record { stream = 0; start = s; len = n; stamp = w.position.frames.0; duration = Some 1 });
         walker = x;
       })
   unfolding read_frame payload_of shown_of
@@ -39,7 +38,7 @@ module _ (file : List ℕ) (w : Walker) (size : ℕ) where
       let b = body_whole file (w.position.cursor + 8) size s n e in
       rw (o, b.1, b.2, b.0)
 
-  pub sound-whole : (s n count : ℕ) (d : PacketDuration) (x : Walker) → body_at file (w.position.cursor + 8) size ≡ Whole s n
+  pub sound-whole : (s n count : ℕ) (d : Option ℕ) (x : Walker) → body_at file (w.position.cursor + 8) size ≡ Some (s, n)
       → count ≡ count_of (take size (drop s file)) → d ≡ packet_duration count → x ≡ advanced w (past_sound w.position size count)
       → read_sound file w size
       ≡ said_read file

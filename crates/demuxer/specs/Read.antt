@@ -1,6 +1,8 @@
 -- One read. Assumes nothing.
 use Rattle.std.specs.Prelude.{◌≡◌, ℕ, ◌+◌, ◌≤◌, true, false, cond, List, leb, length, take, drop}
-use Rattle.std.proofs.Math.Option.{some}
+use Rattle.std.specs.Result.{Result, Ok, Err}
+use Rattle.std.specs.Option.{Option, None, Some}
+use Rattle.error.specs.declared.AmvError.{AmvError}
 use Rattle.error.specs.Answer.{numbered}
 use Rattle.error.specs.Refusal.{refusal_of}
 use Rattle.error.specs.declared.Refusal.{Refusal}
@@ -12,15 +14,12 @@ use Rattle.demuxer.specs.declared.head.Head.{Head}
 use Rattle.demuxer.specs.declared.head.Head.TheVariants as head
 use Rattle.demuxer.specs.declared.packet.Packet.{Packet}
 use Rattle.demuxer.specs.declared.position.Position.{Position}
-use Rattle.demuxer.specs.declared.walker.Trailer.TheVariants.{At, NotMet}
 use Rattle.demuxer.specs.declared.walker.Walker.{Walker}
-use Rattle.demuxer.specs.declared.walker.NextPacket.{NextPacket}
-use Rattle.demuxer.specs.declared.walker.NextPacket.TheVariants as next
 use Rattle.demuxer.specs.declared.walker.Read.{Read}
 
 -- "A fresh one starts at 316 with zero counters, no mark and no trailer"
 abbrev pub fresh : Walker
-fresh = record { position = start; end = false; cut = false; trailer = NotMet }
+fresh = record { position = start; end = false; cut = false; trailer = None }
 
 -- what a read answers: a packet, End, or a refusal
 pub data ReadAnswer : Type 0 where
@@ -33,10 +32,10 @@ pub record Reading : Type 0 where
   pub answer : ReadAnswer
   pub walker : Walker
 
-abbrev pub said_next : List ℕ → NextPacket → ReadAnswer
-said_next file (next.Packet p) = packet (shown_of file p)
-said_next file next.End = End
-said_next file (next.Err e) = refused (refusal_of e)
+abbrev pub said_next : List ℕ → Result (Option Packet) AmvError → ReadAnswer
+said_next file (Ok (Some p)) = packet (shown_of file p)
+said_next file (Ok None) = End
+said_next file (Err e) = refused (refusal_of e)
 
 abbrev pub said_read : List ℕ → Read → Reading
 said_read file r = record { answer = said_next file r.answer; walker = r.walker }
@@ -45,10 +44,10 @@ said_read file r = record { answer = said_next file r.answer; walker = r.walker 
 abbrev pub PlacedAt : List ℕ → Walker → Packet → Type 0
 PlacedAt file w p = (p.start ≡ w.position.cursor + 8) × (p.start + p.len ≤ length file)
 
-abbrev pub Placed : List ℕ → Walker → NextPacket → Type 0
-Placed file w (next.Packet p) = PlacedAt file w p
-Placed file w next.End = Unit
-Placed file w (next.Err e) = Unit
+abbrev pub Placed : List ℕ → Walker → Result (Option Packet) AmvError → Type 0
+Placed file w (Ok (Some p)) = PlacedAt file w p
+Placed file w (Ok None) = Unit
+Placed file w (Err e) = Unit
 
 -- a refusal returns the walker that it was given
 abbrev pub refuse : ℕ → ℕ → Walker → Reading
@@ -60,7 +59,7 @@ cut_off w = record { position = w.position; end = true; cut = true; trailer = w.
 
 -- "The third sets end and trailer."
 abbrev pub at_trailer : Walker → Walker
-at_trailer w = record { position = w.position; end = true; cut = w.cut; trailer = At w.position.cursor }
+at_trailer w = record { position = w.position; end = true; cut = w.cut; trailer = Some w.position.cursor }
 
 abbrev pub advanced : Walker → Position → Walker
 advanced w p = record { position = p; end = w.end; cut = w.cut; trailer = w.trailer }
@@ -79,7 +78,7 @@ read_frame file w size =
     if_whole file w size
     (record {
       answer =
-          packet (record { stream = 0; payload = payload_at file w.position.cursor size; stamp = w.position.frames.0; duration = some 1 });
+          packet (record { stream = 0; payload = payload_at file w.position.cursor size; stamp = w.position.frames.0; duration = Some 1 });
       walker = advanced w (past_frame w.position size);
     })
 

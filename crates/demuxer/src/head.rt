@@ -3,8 +3,8 @@ ghost use Rattle.std.specs.Prelude.{◌≡◌, ◌+◌, take, drop};
 ghost use Rattle.demuxer.specs.Head.{is_trailer, head_at, count_of};
 ghost use Rattle.demuxer.specs.Steps.{from_header, body_at};
 
-use chunk::{AUDIO_CHUNK_TAG, ChunkHeader, ChunkHeaderResult, VIDEO_CHUNK_TAG};
-use parse::preamble::{AmvAudioPreamble, AmvAudioPreambleResult};
+use chunk::{AUDIO_CHUNK_TAG, ChunkHeader, VIDEO_CHUNK_TAG};
+use parse::preamble::AmvAudioPreamble;
 
 // The trailer `AMV_END_` as a tag and a length: the first half.
 pub const TRAILER_TAG: u32 = 0x5f564d41;
@@ -21,13 +21,6 @@ pub enum Head {
     Unknown,
     Video(u32),
     Audio(u32),
-}
-
-// A payload: its start and its length, or that the file ends before it does.
-#[derive(Clone, Copy)]
-pub enum Body {
-    Whole(usize, usize),
-    Short,
 }
 
 // Both halves of the trailer.
@@ -64,23 +57,23 @@ pub fn head_at(file: &[u8], at: usize) -> Head
     ensures { result ≡ head_at file.now at }
 {
     match ChunkHeader::parse_at(file, at) {
-        ChunkHeaderResult::Ok(header) => Head::from_header(header),
-        ChunkHeaderResult::Err(_) => Head::Short,
+        Ok(header) => Head::from_header(header),
+        Err(_) => Head::Short,
     }
 }
 
 // The payload of a length that starts at an offset. Refuses nothing: a payload that the file ends inside is a case.
-pub fn body_at(file: &[u8], start: usize, size: u32) -> Body
+pub fn body_at(file: &[u8], start: usize, size: u32) -> Option<(usize, usize)>
     ensures { result ≡ body_at file.now start size }
 {
     let len = size as usize;
     if file.len() < start {
-        return Body::Short;
+        return None;
     }
     if file.len() - start < len {
-        return Body::Short;
+        return None;
     }
-    Body::Whole(start, len)
+    Some((start, len))
 }
 
 // The sample count of a sound payload, by the preamble in the part of it that the file has; 0 where that is too short for one. Refuses
@@ -94,7 +87,7 @@ pub fn sample_count(file: &[u8], start: usize, size: u32) -> u32
     let there = fields::min((file.len() - start) as u64, size as u64) as usize;
     let end = start + there;
     match AmvAudioPreamble::parse(&file[start..end]) {
-        AmvAudioPreambleResult::Ok(preamble) => preamble.decoded_sample_count,
-        AmvAudioPreambleResult::Err(_) => 0,
+        Ok(preamble) => preamble.decoded_sample_count,
+        Err(_) => 0,
     }
 }

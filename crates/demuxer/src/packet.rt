@@ -2,13 +2,6 @@
 ghost use Rattle.std.specs.Prelude.{◌≡◌};
 ghost use Rattle.demuxer.specs.Packet.{payload_of, packet_duration};
 
-// How long a packet lasts: in frames for a frame, in samples for sound, if that is known.
-#[derive(Clone, Copy)]
-pub enum PacketDuration {
-    Ticks(u64),
-    None,
-}
-
 // What a read gives: the stream, where its payload stands in the file, and when and how long it is shown.
 #[derive(Clone, Copy)]
 pub struct Packet {
@@ -17,17 +10,17 @@ pub struct Packet {
     pub start: usize,
     pub len: usize,
     pub stamp: u64,
-    pub duration: PacketDuration,
+    pub duration: Option<u64>,
 }
 
 // A sound block's duration by its count; a zero one is shown as none. Refuses nothing.
-pub fn shown(count: u32) -> PacketDuration
+pub fn shown(count: u32) -> Option<u64>
     ensures { result ≡ packet_duration count }
 {
     if count == 0 {
-        return PacketDuration::None;
+        return None;
     }
-    PacketDuration::Ticks(count as u64)
+    Some(count as u64)
 }
 
 // The part of the file that a packet names, so that a packet carries no bytes. Refuses nothing: empty where the file does not reach so far.

@@ -3,18 +3,11 @@ ghost use Rattle.std.specs.Prelude.{◌≡◌};
 ghost use Rattle.demuxer.specs.Position.{InRange};
 ghost use Rattle.demuxer.specs.Read.{fresh, cut_off, at_trailer, advanced, said_read, Placed, read_frame, read_sound, read_chunk, read_of};
 
-use crate::head::{Body, Head, body_at, head_at, sample_count};
-use crate::packet::{Packet, PacketDuration, shown};
+use crate::head::{Head, body_at, head_at, sample_count};
+use crate::packet::{Packet, shown};
 use crate::position::Position;
 use error::AmvError;
 use prelude::prelude::AmvPrelude;
-
-// Where the trailer was met, if it was.
-#[derive(Clone, Copy)]
-pub enum Trailer {
-    At(u64),
-    NotMet,
-}
 
 // The state of reading, which every read returns anew: where it stands, whether it has ended, whether the file is cut (it ends before its
 // trailer, at a chunk or inside one), and the trailer.
@@ -23,21 +16,13 @@ pub struct Walker {
     pub position: Position,
     pub end: bool,
     pub cut: bool,
-    pub trailer: Trailer,
-}
-
-// What a read answers.
-#[derive(Clone, Copy)]
-pub enum NextPacket {
-    Packet(Packet),
-    End,
-    Err(AmvError),
+    pub trailer: Option<u64>,
 }
 
 // A read's answer, and the walker that the next call gets.
 #[derive(Clone, Copy)]
 pub struct Read {
-    pub answer: NextPacket,
+    pub answer: Result<Option<Packet>, AmvError>,
     pub walker: Walker,
 }
 
@@ -53,7 +38,7 @@ impl Walker {
             position: Position::new(),
             end: false,
             cut: false,
-            trailer: Trailer::NotMet,
+            trailer: None,
         }
     }
 
@@ -75,7 +60,7 @@ impl Walker {
             position,
             end: true,
             cut: self.cut,
-            trailer: Trailer::At(position.cursor),
+            trailer: Some(position.cursor),
         }
     }
 
@@ -100,9 +85,9 @@ impl Walker {
     {
         let position = self.position;
         let at = position.cursor as usize;
-        let Body::Whole(start, len) = body_at(file, at + 8, size) else {
+        let Some((start, len)) = body_at(file, at + 8, size) else {
             return Read {
-                answer: NextPacket::End,
+                answer: Ok(None),
                 walker: self.cut_off(),
             };
         };
@@ -111,10 +96,10 @@ impl Walker {
             start,
             len,
             stamp: position.frames.0,
-            duration: PacketDuration::Ticks(1),
+            duration: Some(1),
         };
         Read {
-            answer: NextPacket::Packet(packet),
+            answer: Ok(Some(packet)),
             walker: self.advanced(position.past_frame(size)),
         }
     }
@@ -127,9 +112,9 @@ impl Walker {
     {
         let position = self.position;
         let at = position.cursor as usize;
-        let Body::Whole(start, len) = body_at(file, at + 8, size) else {
+        let Some((start, len)) = body_at(file, at + 8, size) else {
             return Read {
-                answer: NextPacket::End,
+                answer: Ok(None),
                 walker: self.cut_off(),
             };
         };
@@ -142,7 +127,7 @@ impl Walker {
             duration: shown(count),
         };
         Read {
-            answer: NextPacket::Packet(packet),
+            answer: Ok(Some(packet)),
             walker: self.advanced(position.past_sound(size, count)),
         }
     }
@@ -156,15 +141,15 @@ impl Walker {
         let cursor = self.position.cursor;
         match head_at(file, cursor as usize) {
             Head::Short => Read {
-                answer: NextPacket::End,
+                answer: Ok(None),
                 walker: self.cut_off(),
             },
             Head::Trailer => Read {
-                answer: NextPacket::End,
+                answer: Ok(None),
                 walker: self.at_trailer(),
             },
             Head::Unknown => Read {
-                answer: NextPacket::Err(AmvError::UnknownTag(cursor)),
+                answer: Err(AmvError::UnknownTag(cursor)),
                 walker: self,
             },
             Head::Video(size) => self.read_frame(file, size),
@@ -180,20 +165,20 @@ impl Walker {
     {
         if !fields::file::within_limit(file) {
             return Read {
-                answer: NextPacket::Err(AmvError::FileTooLong),
+                answer: Err(AmvError::FileTooLong),
                 walker: self,
             };
         }
         let position = self.position;
         if !position.in_range() {
             return Read {
-                answer: NextPacket::Err(AmvError::StateOutOfRange),
+                answer: Err(AmvError::StateOutOfRange),
                 walker: self,
             };
         }
         if self.end {
             return Read {
-                answer: NextPacket::End,
+                answer: Ok(None),
                 walker: self,
             };
         }

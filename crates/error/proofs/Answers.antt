@@ -1,14 +1,13 @@
 -- Questions one after another: what goes on, what refuses, and what an accepted run has passed. Assumes nothing.
 use mathlib.Core.Path.{◌≡◌, refl, sym, ap, ◌∙◌}
+use Rattle.std.specs.Result.{Result, Ok, Err}
 use mathlib.Core.Bool.{Bool, true, false, ◌&&◌}
 use Prim.Native.Nat.{ℕ}
 use Rattle.fields.proofs.Impossible.{impossible}
 use Rattle.error.specs.Answer.{Answer, accepted, refused, ask, and_then}
 use Rattle.error.specs.Refusal.{refusal_of, said}
 use Rattle.error.specs.declared.AmvError.{AmvError}
-use Rattle.error.specs.declared.AmvResult.{AmvResult}
 use Rattle.error.specs.declared.Refusal.{Refusal}
-use Rattle.error.specs.declared.AmvResult.TheVariants.{Ok, Err}
 
 -- no accepted answer is a refusal
 pub never : {A B : Type 0} {x : A} {r : Refusal} → ◌≡◌ {A = Answer A} (accepted x) (refused r) → B
@@ -24,10 +23,10 @@ accepted-same e = cc
 
 module _ {B : Type 0} where
   -- a call that only checks, and what is asked after it
-  pub then_ok : {r : AmvResult} {x : Answer Unit} (rest : Unit → Answer B) → said r ≡ x → r ≡ Ok → and_then x rest ≡ rest tt
+  pub then_ok : {r : Result Unit AmvError} {x : Answer Unit} (rest : Unit → Answer B) → said r ≡ x → r ≡ (Ok tt) → and_then x rest ≡ rest tt
   then_ok {r} {x} rest s e = ap (λ (y : Answer Unit). and_then y rest) (sym s ∙ ap said e)
 
-  pub then_err : {r : AmvResult} {x : Answer Unit} {e : AmvError} (rest : Unit → Answer B) → said r ≡ x → r ≡ Err e
+  pub then_err : {r : Result Unit AmvError} {x : Answer Unit} {e : AmvError} (rest : Unit → Answer B) → said r ≡ x → r ≡ Err e
       → and_then x rest ≡ refused (refusal_of e)
   then_err {r} {x} {e} rest s p = ap (λ (y : Answer Unit). and_then y rest) (sym s ∙ ap said p)
 

@@ -1,5 +1,6 @@
 -- The number and the place of each case of `AmvError`, as documents 01 and 02 fix them. Assumes nothing.
 use Rattle.error.specs.Answer.{Answer, accepted, refused, numbered}
+use Rattle.std.specs.Result.{Result, Ok, Err}
 use Rattle.error.specs.declared.Refusal.{Refusal}
 use Rattle.error.specs.declared.AmvError.{AmvError}
 use Rattle.error.specs.declared.AmvError.TheVariants.{FileTooLong, PreludeCut, WrongTag, WrongSize, ZeroFps, WrongMicros, WrongFlag, NonzeroReserved}
@@ -10,8 +11,6 @@ use Rattle.error.specs.declared.AmvError.TheVariants.{NoSuchStream, BadRecord, A
 use Rattle.error.specs.declared.AmvError.TheVariants.{NoRoom, AlreadyEnded, PreludeMissing, ChunkCut, AfterTrailer, VideoAtOddPosition}
 use Rattle.error.specs.declared.AmvError.TheVariants.{AudioAtEvenPosition, OtherAtPosition, OddChunkCount, SamplesTooWide, StepIndexTooLarge}
 use Rattle.error.specs.declared.AmvError.TheVariants.{NibblesMissing, SampleBufferTooShort, WrongRegisterBlock, UnknownCommand}
-use Rattle.error.specs.declared.AmvResult.{AmvResult}
-use Rattle.error.specs.declared.AmvResult.TheVariants.{Ok, Err}
 
 -- in the order of the numbers
 abbrev pub refusal_of : AmvError → Refusal
@@ -62,6 +61,6 @@ refusal_of WrongRegisterBlock = numbered 74 0
 refusal_of UnknownCommand = numbered 75 0
 
 -- the result of a call that only checks
-abbrev pub said : AmvResult → Answer Unit
-said Ok = accepted tt
+abbrev pub said : Result Unit AmvError → Answer Unit
+said (Ok tt) = accepted tt
 said (Err e) = refused (refusal_of e)

@@ -62,13 +62,6 @@ pub enum AmvError {
     UnknownCommand,
 }
 
-// What a call answers that only checks: nothing to say, or a refusal.
-#[derive(Clone, Copy)]
-pub enum AmvResult {
-    Ok,
-    Err(AmvError),
-}
-
 impl AmvError {
     // Number and place of a case, in the order of the numbers.
     fn refusal(self) -> Refusal
@@ -246,14 +239,14 @@ impl AmvError {
     }
 }
 
-impl AmvResult {
+impl Result<(), AmvError> {
     // The refusal's number, 0 where the call is accepted: an answer as one number, for callers that have no enums. Refuses nothing.
     pub fn number(self) -> u32
         ensures { result ≡ number_of (said self) }
     {
         match self {
-            AmvResult::Ok => 0,
-            AmvResult::Err(e) => e.number(),
+            Ok(()) => 0,
+            Err(e) => e.number(),
         }
     }
 
@@ -262,8 +255,8 @@ impl AmvResult {
         ensures { result ≡ place_of (said self) }
     {
         match self {
-            AmvResult::Ok => 0,
-            AmvResult::Err(e) => e.place(),
+            Ok(()) => 0,
+            Err(e) => e.place(),
         }
     }
 }

@@ -1,5 +1,7 @@
 -- The check: a fold of the walk. Assumes nothing.
 use Rattle.std.specs.Prelude.{ℕ, Bool, true, false, List, [], ◌∷◌, eqb}
+use Rattle.std.specs.Result.{Result, Ok, Err}
+use Rattle.error.specs.declared.AmvError.{AmvError}
 use Rattle.chunk.specs.Interleave.{interleave}
 use Rattle.error.specs.Answer.{Answer, accepted, refused, numbered, ask, and_then}
 use Rattle.error.specs.Refusal.{refusal_of}
@@ -8,8 +10,6 @@ use Rattle.demuxer.specs.declared.position.Position.{Position}
 use Rattle.prelude.specs.Prelude.{strict_of}
 use Rattle.walk.specs.Walk.{kind_tag, Stop, ran_out, trailer, unknown_tag, Walk, stop, chunk, past, file_walk}
 use Rattle.finished.specs.declared.Totals.{Totals}
-use Rattle.finished.specs.declared.CheckResult.{CheckResult}
-use Rattle.finished.specs.declared.CheckResult.TheVariants.{Ok, Err}
 
 abbrev pub passes : Answer Unit → Bool
 passes (accepted u) = true
@@ -46,6 +46,3 @@ check_chunks file = check_from start (all_paired file) (file_walk file)
 unfoldable pub check_of : List ℕ → Answer Totals
 check_of file = and_then (strict_of file) (λ _. check_chunks file)
 
-abbrev pub said_check : CheckResult → Answer Totals
-said_check (Ok t) = accepted t
-said_check (Err e) = refused (refusal_of e)

@@ -6,12 +6,12 @@ ghost use Rattle.chunk.specs.Chunk.{kind_of};
 ghost use Rattle.chunk.specs.Interleave.{interleave_at, even};
 ghost use Rattle.fields.specs.File.{file_limit};
 ghost use Rattle.walk.specs.Walk.{trailer};
-ghost use Rattle.finished.specs.Check.{passes, check_stop, check_chunks, check_of, said_check};
+ghost use Rattle.finished.specs.Check.{passes, check_stop, check_chunks, check_of, said};
 
 use chunk::interleave::interleave_at;
 use demuxer::position::Position;
-use error::{AmvError, AmvResult};
-use prelude::prelude::{AmvPrelude, AmvPreludeResult};
+use error::AmvError;
+use prelude::prelude::AmvPrelude;
 use walk::{Step, step_at};
 
 // What the check answers of a finished recording.
@@ -26,13 +26,6 @@ pub struct Totals {
     pub paired: bool,
 }
 
-// The totals, or a refusal.
-#[derive(Clone, Copy)]
-pub enum CheckResult {
-    Ok(Totals),
-    Err(AmvError),
-}
-
 // Whether the chunks are still paired after one more, at its number.
 fn paired_on(paired: bool, tag: u32, number: u64) -> bool
     ensures { result ≡ (paired && passes (interleave_at (kind_of tag) number)) }
@@ -41,8 +34,8 @@ fn paired_on(paired: bool, tag: u32, number: u64) -> bool
         return false;
     }
     match interleave_at(tag, number) {
-        AmvResult::Ok => true,
-        AmvResult::Err(_) => false,
+        Ok(()) => true,
+        Err(_) => false,
     }
 }
 
@@ -56,15 +49,15 @@ fn paired_all(paired: bool, count: u64) -> bool
 }
 
 // The verdict at the trailer: it must be the file's last 8 bytes.
-fn check_trailer(file: &[u8], position: Position, paired: bool) -> CheckResult
+fn check_trailer(file: &[u8], position: Position, paired: bool) -> Result<Totals, AmvError>
     requires { position.cursor + 8 ≤ length file.now }
-    ensures { said_check result ≡ check_stop position paired (trailer (length file.now - (position.cursor + 8))) }
+    ensures { said result ≡ check_stop position paired (trailer (length file.now - (position.cursor + 8))) }
 {
     let after = file.len() - (position.cursor as usize + 8);
     if after != 0 {
-        return CheckResult::Err(AmvError::AfterTrailer(position.cursor));
+        return Err(AmvError::AfterTrailer(position.cursor));
     }
-    CheckResult::Ok(Totals {
+    Ok(Totals {
         frames: position.frames.0,
         blocks: position.blocks.0,
         samples: position.samples.0,
@@ -74,9 +67,9 @@ fn check_trailer(file: &[u8], position: Position, paired: bool) -> CheckResult
 }
 
 // The chunks, one after another, each with its whole payload.
-fn check_chunks(file: &[u8]) -> CheckResult
+fn check_chunks(file: &[u8]) -> Result<Totals, AmvError>
     requires { length file.now ≤ file_limit }
-    ensures { said_check result ≡ check_chunks file.now }
+    ensures { said result ≡ check_chunks file.now }
 {
     let mut position = Position::new();
     let mut paired = true;
@@ -84,17 +77,17 @@ fn check_chunks(file: &[u8]) -> CheckResult
         let number = position.frames.0 + position.blocks.0;
         match step_at(file, position.cursor as usize) {
             Step::RanOut => {
-                return CheckResult::Err(AmvError::ChunkCut(position.cursor));
+                return Err(AmvError::ChunkCut(position.cursor));
             }
             Step::Trailer => {
                 return check_trailer(file, position, paired_all(paired, number));
             }
             Step::UnknownTag => {
-                return CheckResult::Err(AmvError::UnknownTag(position.cursor));
+                return Err(AmvError::UnknownTag(position.cursor));
             }
             Step::Chunk(chunk) => {
                 if chunk.missing != 0 {
-                    return CheckResult::Err(AmvError::ChunkCut(position.cursor));
+                    return Err(AmvError::ChunkCut(position.cursor));
                 }
                 let kind = chunk.kind;
                 paired = paired_on(paired, kind.tag(), number);
@@ -106,11 +99,11 @@ fn check_chunks(file: &[u8]) -> CheckResult
 
 // Whether a file is a finished recording: its totals. Refuses what the prelude's strict reading refuses (10 to 24); then, at a chunk, fewer
 // than 8 bytes or a cut payload (60), bytes after the trailer (61) and an unknown tag (31).
-pub fn check(file: &[u8]) -> CheckResult
-    ensures { said_check result ≡ check_of file.now }
+pub fn check(file: &[u8]) -> Result<Totals, AmvError>
+    ensures { said result ≡ check_of file.now }
 {
     match AmvPrelude::parse_strict(file) {
-        AmvPreludeResult::Err(e) => CheckResult::Err(e),
-        AmvPreludeResult::Ok(_) => check_chunks(file),
+        Err(e) => Err(e),
+        Ok(_) => check_chunks(file),
     }
 }

@@ -10,7 +10,7 @@ ghost use Rattle.listing.specs.Listing.{chunk_lines, checked_lines, input_limit,
 ghost use Rattle.listing.specs.Steps.{room};
 
 use demuxer::position::Position;
-use finished::{CheckResult, check};
+use finished::check;
 use lines::{put_chunk_line, put_long_line, put_refusal_line, put_totals_line};
 use walk::{Step, step_at};
 
@@ -55,7 +55,7 @@ fn put_checked_lines(out: &mut [u8], file: &[u8]) -> usize
     ensures { Written out.old 0 (checked_lines file.now (check_of file.now)) out.new result }
 {
     match check(file) {
-        CheckResult::Ok(totals) => {
+        Ok(totals) => {
             let at = put_chunk_lines(out, file);
             put_totals_line(
                 out,
@@ -67,7 +67,7 @@ fn put_checked_lines(out: &mut [u8], file: &[u8]) -> usize
                 totals.paired,
             )
         }
-        CheckResult::Err(error) => {
+        Err(error) => {
             let number = error.number();
             let place = error.place();
             put_refusal_line(out, 0, number, place)

@@ -1,5 +1,6 @@
 -- What the writer's functions cite: room, the questions asked first, and bytes put one after another. Assumes nothing.
 use mathlib.Core.Path.{◌≡◌, refl, sym, ap, ◌∙◌}
+use Rattle.std.specs.Result.{Result, Ok, Err}
 use mathlib.Core.Bool.{Bool, true, false, not, ◌&&◌}
 use mathlib.Core.List.{List, ◌++◌, append_assoc}
 use Prim.Native.Nat.{ℕ, ◌+◌, ◌≤◌, ◌<◌, min}
@@ -11,8 +12,6 @@ use Rattle.chunk.specs.Chunk.{stream_tag, payload_limit}
 use Rattle.error.specs.Answer.{Answer, accepted, refused, ask, and_then}
 use Rattle.error.specs.Refusal.{refusal_of, said}
 use Rattle.error.specs.declared.AmvError.{AmvError}
-use Rattle.error.specs.declared.AmvResult.{AmvResult}
-use Rattle.error.specs.declared.AmvResult.TheVariants.{Ok, Err}
 use Rattle.error.proofs.Answers.{then_ok, then_err, ask-passed, both}
 use Rattle.fields.specs.File.{file_limit}
 use Rattle.fields.specs.Le.{le_bytes, put}
@@ -56,10 +55,10 @@ three p rest true true true = refl
 open_and : (w : Writer) (rest : Answer Unit) → ask_open w rest ≡ and_then (ask_open w (accepted tt)) (λ _. rest)
 open_and w rest = three w.written rest w.begun (not w.ended) (has_prelude w)
 
-pub open_ok : {r : AmvResult} (w : Writer) (rest : Answer Unit) → said r ≡ ask_open w (accepted tt) → r ≡ Ok → ask_open w rest ≡ rest
+pub open_ok : {r : Result Unit AmvError} (w : Writer) (rest : Answer Unit) → said r ≡ ask_open w (accepted tt) → r ≡ (Ok tt) → ask_open w rest ≡ rest
 open_ok w rest s e = open_and w rest ∙ then_ok (λ _. rest) s e
 
-pub open_err : {r : AmvResult} {e : AmvError} (w : Writer) (rest : Answer Unit) → said r ≡ ask_open w (accepted tt) → r ≡ Err e
+pub open_err : {r : Result Unit AmvError} {e : AmvError} (w : Writer) (rest : Answer Unit) → said r ≡ ask_open w (accepted tt) → r ≡ Err e
     → ask_open w rest ≡ refused (refusal_of e)
 open_err w rest s e = open_and w rest ∙ then_err (λ _. rest) s e
 
@@ -148,11 +147,11 @@ trailer-passed w room h =
 
 -- ---- a call's two ends
 
-pub told_ok : {q : Answer Unit} {s : AmvResult} → said s ≡ q → s ≡ Ok → q ≡ accepted tt
+pub told_ok : {q : Answer Unit} {s : Result Unit AmvError} → said s ≡ q → s ≡ (Ok tt) → q ≡ accepted tt
 told_ok p e = sym p ∙ ap said e
 
-module _ {q : Answer Unit} {s : AmvResult} (w : Writer) (buf : List ℕ) (next : Writer) (after : List ℕ) where
-  pub meets_ok : {r : Wrote} {writer : Writer} {buffer : List ℕ} → said s ≡ q → s ≡ Ok → r ≡ accepted_with writer → writer ≡ next → buffer ≡ after
+module _ {q : Answer Unit} {s : Result Unit AmvError} (w : Writer) (buf : List ℕ) (next : Writer) (after : List ℕ) where
+  pub meets_ok : {r : Wrote} {writer : Writer} {buffer : List ℕ} → said s ≡ q → s ≡ (Ok tt) → r ≡ accepted_with writer → writer ≡ next → buffer ≡ after
       → MeetsOutcome (outcome q w buf next after) r buffer
   meets_ok p e g a b =
       let k : accepted tt ≡ q = sym (told_ok p e) in

@@ -15,7 +15,7 @@ ghost use Rattle.muxer.specs.Steps.{accepted_with, refused_with};
 
 use chunk::PAYLOAD_LIMIT;
 use duration::AmvDuration;
-use error::{AmvError, AmvResult};
+use error::AmvError;
 use fields::file::FILE_LIMIT;
 use prelude::build::build_prelude_bytes;
 use prelude::prelude::AmvPrelude;
@@ -47,7 +47,7 @@ pub struct Writer {
 // A call's answer and the state that the next call gets.
 #[derive(Clone, Copy)]
 pub struct Wrote {
-    pub result: AmvResult,
+    pub result: Result<(), AmvError>,
     pub writer: Writer,
 }
 
@@ -116,7 +116,7 @@ impl Wrote {
     fn accepted(writer: Writer) -> Wrote
         ensures { result ≡ accepted_with writer }
     {
-        let result = AmvResult::Ok;
+        let result = Ok(());
         Wrote { result, writer }
     }
 
@@ -124,7 +124,7 @@ impl Wrote {
     fn refused(e: AmvError, writer: Writer) -> Wrote
         ensures { result ≡ refused_with e writer }
     {
-        let result = AmvResult::Err(e);
+        let result = Err(e);
         Wrote { result, writer }
     }
 }
@@ -166,69 +166,69 @@ impl Writer {
     }
 
     // The questions of a header. A writer that has not begun has no prelude to miss, so 56 needs no test.
-    fn ask_header(self, room: usize) -> AmvResult
+    fn ask_header(self, room: usize) -> Result<(), AmvError>
         ensures { said result ≡ header_questions self room }
     {
         if self.begun {
-            return AmvResult::Err(AmvError::AlreadyBegun(self.written));
+            return Err(AmvError::AlreadyBegun(self.written));
         }
         if self.ended {
-            return AmvResult::Err(AmvError::AlreadyEnded(self.written));
+            return Err(AmvError::AlreadyEnded(self.written));
         }
         if has_room(room, 0, Writer::START) {
-            AmvResult::Ok
+            Ok(())
         } else {
-            AmvResult::Err(AmvError::NoRoom(self.written))
+            Err(AmvError::NoRoom(self.written))
         }
     }
 
     // What a packet and the trailer both ask first.
-    fn ask_open(self) -> AmvResult
+    fn ask_open(self) -> Result<(), AmvError>
         ensures { said result ≡ ask_open self (accepted tt) }
     {
         if !self.begun {
-            return AmvResult::Err(AmvError::NotBegun(self.written));
+            return Err(AmvError::NotBegun(self.written));
         }
         if self.ended {
-            return AmvResult::Err(AmvError::AlreadyEnded(self.written));
+            return Err(AmvError::AlreadyEnded(self.written));
         }
         if self.written < Writer::START {
-            return AmvResult::Err(AmvError::PreludeMissing(self.written));
+            return Err(AmvError::PreludeMissing(self.written));
         }
-        AmvResult::Ok
+        Ok(())
     }
 
     // The questions of a packet.
-    fn ask_packet(self, size: usize, stream: u32, room: usize) -> AmvResult
+    fn ask_packet(self, size: usize, stream: u32, room: usize) -> Result<(), AmvError>
         ensures { said result ≡ packet_questions self size stream room }
     {
-        if let AmvResult::Err(e) = self.ask_open() {
-            return AmvResult::Err(e);
+        if let Err(e) = self.ask_open() {
+            return Err(e);
         }
         if size > PAYLOAD_LIMIT {
-            return AmvResult::Err(AmvError::PayloadTooLong(self.written));
+            return Err(AmvError::PayloadTooLong(self.written));
         }
         if stream > 1 {
-            return AmvResult::Err(AmvError::PacketOfNoStream(self.written));
+            return Err(AmvError::PacketOfNoStream(self.written));
         }
         if has_room(room, self.written, packet_len(size)) {
-            AmvResult::Ok
+            Ok(())
         } else {
-            AmvResult::Err(AmvError::NoRoom(self.written))
+            Err(AmvError::NoRoom(self.written))
         }
     }
 
     // The questions of the trailer.
-    fn ask_trailer(self, room: usize) -> AmvResult
+    fn ask_trailer(self, room: usize) -> Result<(), AmvError>
         ensures { said result ≡ trailer_questions self room }
     {
-        if let AmvResult::Err(e) = self.ask_open() {
-            return AmvResult::Err(e);
+        if let Err(e) = self.ask_open() {
+            return Err(e);
         }
         if has_room(room, self.written, 8) {
-            AmvResult::Ok
+            Ok(())
         } else {
-            AmvResult::Err(AmvError::NoRoom(self.written))
+            Err(AmvError::NoRoom(self.written))
         }
     }
 
@@ -300,8 +300,8 @@ impl Writer {
         ensures { MeetsOutcome (header_call self buf.old) result buf.new }
     {
         match self.ask_header(buf.len()) {
-            AmvResult::Err(e) => Wrote::refused(e, self),
-            AmvResult::Ok => {
+            Err(e) => Wrote::refused(e, self),
+            Ok(()) => {
                 let settings = self.settings;
                 settings.put_prelude(buf);
                 Wrote::accepted(self.after_header())
@@ -315,8 +315,8 @@ impl Writer {
         ensures { MeetsOutcome (packet_call self payload.now stream buf.old) result buf.new }
     {
         match self.ask_packet(payload.len(), stream, buf.len()) {
-            AmvResult::Err(e) => Wrote::refused(e, self),
-            AmvResult::Ok => {
+            Err(e) => Wrote::refused(e, self),
+            Ok(()) => {
                 put_packet(buf, self.written as usize, payload, stream);
                 Wrote::accepted(self.after_packet(payload.len(), stream))
             }
@@ -329,8 +329,8 @@ impl Writer {
         ensures { MeetsOutcome (trailer_call self buf.old) result buf.new }
     {
         match self.ask_trailer(buf.len()) {
-            AmvResult::Err(e) => Wrote::refused(e, self),
-            AmvResult::Ok => {
+            Err(e) => Wrote::refused(e, self),
+            Ok(()) => {
                 put_trailer(buf, self.written as usize);
                 self.patch_run_length(buf);
                 Wrote::accepted(self.after_trailer())

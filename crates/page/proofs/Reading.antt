@@ -1,8 +1,8 @@
 -- A line is read back: spaces add nothing, digits are worth the number, and each field stands in its columns. Assumes nothing.
 use mathlib.Core.Path.{◌≡◌, refl, sym, ap, ◌∙◌, subst}
+use Rattle.std.specs.Option.{Option, None, Some}
 use mathlib.Core.Bool.{Bool, true, false, ◌||◌}
 use mathlib.Core.List.{List, [], ◌∷◌, ◌++◌, map, append_assoc}
-use mathlib.Core.Option.{some}
 use Prim.Native.Nat.{ℕ, zero, suc, ◌+◌, ◌-◌, ◌*◌, ◌≤◌, ◌<◌}
 use native.Mathlib.Omega.{arith}
 use borrow.Author.Tests.{ne_eqb, eqb-true}
@@ -98,12 +98,12 @@ right-blank width n h = go (width - length (decimal n)) (omega arith)
     go (suc k) p = refl
 
 -- the letter of a good record's kind
-tag_back : (e : ChunkIndexEntry) → good_entry e ≡ true → tag_in (kind (eqb e.tag video_tag)) ≡ some e.tag
+tag_back : (e : ChunkIndexEntry) → good_entry e ≡ true → tag_in (kind (eqb e.tag video_tag)) ≡ Some e.tag
 tag_back e g = go (eqb e.tag video_tag) refl (both (eqb e.tag video_tag || eqb e.tag audio_tag) (ltb e.position.samples.0 count_limit) g).0
   where
-    go : (b : Bool) → eqb e.tag video_tag ≡ b → (b || eqb e.tag audio_tag) ≡ true → tag_in (kind b) ≡ some e.tag
-    go true t h = ap {A = ℕ} some (sym (eqb-true e.tag video_tag t))
-    go false t h = ap {A = ℕ} some (sym (eqb-true e.tag audio_tag h))
+    go : (b : Bool) → eqb e.tag video_tag ≡ b → (b || eqb e.tag audio_tag) ≡ true → tag_in (kind b) ≡ Some e.tag
+    go true t h = ap {A = ℕ} Some (sym (eqb-true e.tag video_tag t))
+    go false t h = ap {A = ℕ} Some (sym (eqb-true e.tag audio_tag h))
 
 -- four fields of 1, 10, 10 and 19 columns, by where they stand
 module _ (k a b c : List ℕ) (lk : length k ≡ 1) (la : length a ≡ 10) (lb : length b ≡ 10) (lc : length c ≡ 19) where

@@ -1,5 +1,7 @@
 -- The page: the records of an index as lines for a strip printer. Document 02, M-100. Assumes nothing.
 use Rattle.std.specs.Prelude.{ℕ, ◌*◌, Bool, List, [], ◌∷◌, ◌++◌, leb, eqb, length}
+use Rattle.std.specs.Result.{Result, Ok, Err}
+use Rattle.error.specs.declared.AmvError.{AmvError}
 use Rattle.error.specs.Answer.{Answer, accepted, refused, ask, and_then}
 use Rattle.error.specs.Refusal.{refusal_of}
 use Rattle.fields.specs.Le.{put}
@@ -8,8 +10,6 @@ use Rattle.chunk_index.specs.Entry.{entries_of}
 use Rattle.chunk_index.specs.declared.entry.ChunkIndexEntry.{ChunkIndexEntry}
 use Rattle.table.specs.Table.{ask_each, table_questions}
 use Rattle.text.specs.Text.{decimal, kind, right}
-use Rattle.page.specs.declared.PageResult.{PageResult}
-use Rattle.page.specs.declared.PageResult.TheVariants.{Ok, Err}
 
 -- 02: "lines of exactly 40 columns"
 abbrev pub columns : ℕ
@@ -53,6 +53,3 @@ printed_from page es (refused r) = record { answer = refused r; page = page }
 unfoldable pub print_of : List ℕ → List ℕ → Printing
 print_of table page = printed_from page (entries_of table) (page_questions table (length page))
 
-abbrev pub said_page : PageResult → Answer ℕ
-said_page (Ok lines) = accepted lines
-said_page (Err e) = refused (refusal_of e)

@@ -1,7 +1,7 @@
 -- Reading a page by its columns, as a miller does. Document 02, M-100: "reading the columns yields the record's kind, offset, frames and
 -- samples". Nothing here is said in terms of how a page is printed. Assumes nothing.
 use Rattle.std.specs.Prelude.{ℕ, zero, suc, ◌+◌, ◌-◌, ◌*◌, cond, List, [], ◌∷◌, eqb, take, drop}
-use Rattle.std.proofs.Math.Option.{Option, none, some}
+use Rattle.std.specs.Option.{Option, None, Some}
 use Rattle.chunk.specs.Chunk.{video_tag, audio_tag}
 
 -- the columns of a line from one to another, counted from 1
@@ -15,8 +15,8 @@ number_in n (c ∷ cs) = cond (eqb c 32) (number_in n cs) (number_in (10 * n + (
 
 -- the tag that a letter stands for: `00dc` for V, `01wb` for A
 abbrev pub tag_in : List ℕ → Option ℕ
-tag_in [] = none
-tag_in (c ∷ cs) = cond (eqb c 86) (some video_tag) (cond (eqb c 65) (some audio_tag) none)
+tag_in [] = None
+tag_in (c ∷ cs) = cond (eqb c 86) (Some video_tag) (cond (eqb c 65) (Some audio_tag) None)
 
 -- what a line shows
 pub record Shown : Type 0 where

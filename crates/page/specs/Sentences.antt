@@ -1,6 +1,6 @@
 -- 02's sentences about the page, a second time: by what is read from it. Assumes nothing.
 use Rattle.std.specs.Prelude.{◌≡◌, ℕ, ◌*◌, ◌≤◌, ◌<◌, true, false, List, [], ◌∷◌, ◌++◌, map, length, take, drop, get_or, replicate}
-use Rattle.std.proofs.Math.Option.{some}
+use Rattle.std.specs.Option.{Option, None, Some}
 use Rattle.error.specs.Answer.{accepted, refused, numbered}
 use Rattle.error.specs.Sentences.{GivesBack, RefusedBy}
 use Rattle.fields.specs.Le.{Bytes}
@@ -51,7 +51,7 @@ AllAligned (line ∷ lines) (e ∷ es) = Aligned line e × AllAligned lines es
 
 -- what a record's line is to show
 abbrev pub shown_of : ChunkIndexEntry → Shown
-shown_of e = record { tag = some e.tag; offset = e.position.cursor; frames = e.position.frames.0; samples = e.position.samples.0 }
+shown_of e = record { tag = Some e.tag; offset = e.position.cursor; frames = e.position.frames.0; samples = e.position.samples.0 }
 
 -- of every table of bytes, as a lent one is
 pub record PageSentences : Type 0 where

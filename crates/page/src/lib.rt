@@ -8,12 +8,12 @@ ghost use Rattle.fields.specs.Le.{put};
 ghost use Rattle.chunk_index.specs.Entry.{entries_of};
 ghost use Rattle.table.specs.Table.{ask_each};
 ghost use Rattle.table.specs.Steps.{most_samples};
-ghost use Rattle.page.specs.Page.{columns, narrow_samples, page_line, page_lines, page_questions, print_of, said_page};
+ghost use Rattle.page.specs.Page.{columns, narrow_samples, page_line, page_lines, page_questions, print_of, said};
 ghost use Rattle.page.specs.Steps.{Fits};
 
 use chunk_index::entry::ChunkIndexEntry;
-use error::{AmvError, AmvResult};
-use table::{TableResult, ask_table};
+use error::AmvError;
+use table::ask_table;
 use text::{put_kind, put_right};
 
 // The columns of a line: kind, offset, frames and samples.
@@ -22,15 +22,8 @@ pub const COLUMNS: usize = 40;
 // The least number of samples that needs more than 18 digits.
 const SAMPLES_LIMIT: u64 = 1_000_000_000_000_000_000;
 
-// What the call answers: how many lines the page has, or a refusal.
-#[derive(Clone, Copy)]
-pub enum PageResult {
-    Ok(usize),
-    Err(AmvError),
-}
-
 // Refuses with 70 the first record whose samples need more than 18 digits, at its start.
-fn narrow_samples(table: &[u8]) -> AmvResult
+fn narrow_samples(table: &[u8]) -> Result<(), AmvError>
     ensures { said result ≡ ask_each narrow_samples 70 0 (entries_of table.now) }
 {
     let mut at: usize = 0;
@@ -40,38 +33,38 @@ fn narrow_samples(table: &[u8]) -> AmvResult
         let e = ChunkIndexEntry::read(table, at);
         let position = e.position;
         if SAMPLES_LIMIT <= position.samples.0 {
-            return AmvResult::Err(AmvError::SamplesTooWide(at as u64));
+            return Err(AmvError::SamplesTooWide(at as u64));
         }
         at += ChunkIndexEntry::LEN;
     }
-    AmvResult::Ok
+    Ok(())
 }
 
 // The question 70. With the most samples that a record has it takes no pass, unless there is a record to refuse.
-fn ask_samples(table: &[u8], most: u64) -> AmvResult
+fn ask_samples(table: &[u8], most: u64) -> Result<(), AmvError>
     requires { most ≡ most_samples 0 (entries_of table.now) }
     ensures { said result ≡ ask_each narrow_samples 70 0 (entries_of table.now) }
 {
     if most < SAMPLES_LIMIT {
-        return AmvResult::Ok;
+        return Ok(());
     }
     narrow_samples(table)
 }
 
 // The questions of the page, in one pass over the records.
-fn ask_page(table: &[u8], room: usize) -> AmvResult
+fn ask_page(table: &[u8], room: usize) -> Result<(), AmvError>
     ensures { said result ≡ page_questions table.now room }
 {
     match ask_table(table) {
-        TableResult::Err(e) => AmvResult::Err(e),
-        TableResult::Ok(most) => {
-            if let AmvResult::Err(e) = ask_samples(table, most) {
-                return AmvResult::Err(e);
+        Err(e) => Err(e),
+        Ok(most) => {
+            if let Err(e) = ask_samples(table, most) {
+                return Err(e);
             }
             if room / COLUMNS < table.len() / ChunkIndexEntry::LEN {
-                return AmvResult::Err(AmvError::TableTooShort);
+                return Err(AmvError::TableTooShort);
             }
-            AmvResult::Ok
+            Ok(())
         }
     }
 }
@@ -109,15 +102,15 @@ fn put_lines(page: &mut [u8], table: &[u8])
 // Prints the records of an index to the front of a page, for the strip printer: a line of 40 columns for each, without line ends. Refused in
 // this order, with the page as it was: a table that is no whole number of records with 41, a record of another tag or too many samples with
 // 43 at its start, a record whose samples need more than 18 digits with 70 at its start, and a page that does not hold all lines with 40.
-pub fn print_index(table: &[u8], page: &mut [u8]) -> PageResult
-    ensures result_value { said_page result ≡ (print_of table.now page.old).answer }
+pub fn print_index(table: &[u8], page: &mut [u8]) -> Result<usize, AmvError>
+    ensures result_value { said result ≡ (print_of table.now page.old).answer }
     ensures page_after { page.new ≡ (print_of table.now page.old).page }
 {
     match ask_page(table, page.len()) {
-        AmvResult::Err(e) => PageResult::Err(e),
-        AmvResult::Ok => {
+        Err(e) => Err(e),
+        Ok(()) => {
             put_lines(page, table);
-            PageResult::Ok(table.len() / ChunkIndexEntry::LEN)
+            Ok(table.len() / ChunkIndexEntry::LEN)
         }
     }
 }

@@ -1,11 +1,11 @@
 -- The body of `amvh`. Assumes nothing.
 use Rattle.std.specs.Prelude.{ℕ, ◌/◌, List, leb, ltb, eqb, length}
+use Rattle.std.specs.Result.{Result, Ok, Err}
+use Rattle.error.specs.declared.AmvError.{AmvError}
 use Rattle.error.specs.Answer.{Answer, accepted, refused, ask}
 use Rattle.error.specs.Refusal.{refusal_of}
 use Rattle.fields.specs.Le.{le}
 use Rattle.parse.specs.declared.header.AmvHeader.{AmvHeader}
-use Rattle.parse.specs.declared.header.AmvHeaderResult.{AmvHeaderResult}
-use Rattle.parse.specs.declared.header.AmvHeaderResult.TheVariants.{Ok, Err}
 
 -- 01: "prelude length and fresh states belong to their types"; the original's `AmvHeader::new`: the flag 1, and 0 elsewhere
 abbrev pub new_header : ℕ → ℕ → AmvHeader
@@ -37,10 +37,6 @@ header_fields body =
 -- 01: "`AmvHeader::parse` 56 bytes? 28."
 unfoldable pub header_of : List ℕ → Answer AmvHeader
 header_of body = ask (leb 56 (length body)) 28 0 (accepted (header_fields body))
-
-abbrev pub said_header : AmvHeaderResult → Answer AmvHeader
-said_header (Ok h) = accepted h
-said_header (Err e) = refused (refusal_of e)
 
 -- 01: "fps above 0? 14. Is micros 1,000,000/fps? 15. Flag 1 (76)? 16. Zero at 80? 17. .. Places: field offsets."
 unfoldable pub header_sentinels : AmvHeader → Answer Unit

@@ -1,21 +1,16 @@
 -- The 8 bytes before the nibbles of a sound block. Assumes nothing.
 use Rattle.std.specs.Prelude.{ℕ, ◌+◌, ◌-◌, ◌/◌, cond, List, leb, ltb, length, get_or}
+use Rattle.std.specs.Result.{Result, Ok, Err}
+use Rattle.std.specs.Option.{Option, None, Some}
+use Rattle.error.specs.declared.AmvError.{AmvError}
 use Rattle.error.specs.Answer.{Answer, accepted, refused, ask}
 use Rattle.error.specs.Refusal.{refusal_of}
 use Rattle.fields.specs.Le.{le, le_bytes}
 use Rattle.parse.specs.declared.preamble.AmvAudioPreamble.{AmvAudioPreamble}
-use Rattle.parse.specs.declared.preamble.AmvAudioPreambleResult.{AmvAudioPreambleResult}
-use Rattle.parse.specs.declared.preamble.AmvAudioPreambleResult.TheVariants.{Ok, Err}
-use Rattle.parse.specs.declared.preamble.PaddingSlack.{PaddingSlack}
-use Rattle.parse.specs.declared.preamble.PaddingSlack.TheVariants.{Some, None}
 
 -- 01: "`AmvAudioPreamble::parse` 8? 25"; its count is "the u32 at payload 4"
 unfoldable pub preamble_of : List ℕ → Answer AmvAudioPreamble
 preamble_of body = ask (leb 8 (length body)) 25 0 (accepted (record { state = le 4 body 0; decoded_sample_count = le 4 body 4 }))
-
-abbrev pub said_preamble : AmvAudioPreambleResult → Answer AmvAudioPreamble
-said_preamble (Ok p) = accepted p
-said_preamble (Err e) = refused (refusal_of e)
 
 -- 01: "`validate_sentinels` there: count above 0? 26"
 abbrev pub preamble_sentinels : AmvAudioPreamble → Answer Unit
@@ -30,5 +25,5 @@ abbrev pub nibble_bytes : ℕ → ℕ
 nibble_bytes samples = (samples + 1) / 2
 
 -- what a block has beyond the length that it must have
-abbrev pub padding_slack : ℕ → ℕ → PaddingSlack
+abbrev pub padding_slack : ℕ → ℕ → Option ℕ
 padding_slack exact total = cond (leb exact total) (Some (total - exact)) None

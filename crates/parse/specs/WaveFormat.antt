@@ -1,12 +1,12 @@
 -- The `WAVEFORMATEX` of the sound. Assumes nothing.
 use Rattle.std.specs.Prelude.{◌≡◌, ℕ, ◌*◌, min, cond, List, leb, eqb, length}
+use Rattle.std.specs.Result.{Result, Ok, Err}
+use Rattle.error.specs.declared.AmvError.{AmvError}
 use Rattle.error.specs.Answer.{Answer, accepted, refused, ask}
 use Rattle.error.specs.Refusal.{refusal_of}
 use Rattle.fields.specs.Capped.{u32_max}
 use Rattle.fields.specs.Le.{le}
 use Rattle.parse.specs.declared.wave_format.AmvWaveFormat.{AmvWaveFormat}
-use Rattle.parse.specs.declared.wave_format.AmvWaveFormatResult.{AmvWaveFormatResult}
-use Rattle.parse.specs.declared.wave_format.AmvWaveFormatResult.TheVariants.{Ok, Err}
 
 -- 01: "cbSize is 0 under 20"
 unfoldable pub cb_size_of : List ℕ → ℕ
@@ -28,10 +28,6 @@ wave_format_fields body =
 -- 01: "`AmvWaveFormat::parse` 18? 27"
 unfoldable pub wave_format_of : List ℕ → Answer AmvWaveFormat
 wave_format_of body = ask (leb 18 (length body)) 27 0 (accepted (wave_format_fields body))
-
-abbrev pub said_wave_format : AmvWaveFormatResult → Answer AmvWaveFormat
-said_wave_format (Ok f) = accepted f
-said_wave_format (Err e) = refused (refusal_of e)
 
 -- 01: "twice the rate capped at 4,294,967,295"
 abbrev pub average_of : ℕ → ℕ

@@ -2,10 +2,10 @@
 ghost use Rattle.std.specs.Prelude.{◌≡◌, ◌*◌, pos};
 ghost use Rattle.error.specs.Refusal.{said};
 ghost use Rattle.duration.specs.Duration.{unpacked_of, total_seconds};
-ghost use Rattle.parse.specs.Header.{new_header, header_of, said_header, header_sentinels};
+ghost use Rattle.parse.specs.Header.{new_header, header_of, said, header_sentinels};
 
 use duration::AmvDuration;
-use error::{AmvError, AmvResult};
+use error::AmvError;
 
 // The fields of the body that a reader needs; the rest of it is zero, which the strict parse asks.
 #[derive(Clone, Copy)]
@@ -17,13 +17,6 @@ pub struct AmvHeader {
     pub flag_one: u32,
     pub reserved_30: u32,
     pub duration_packed: u32,
-}
-
-// What `AmvHeader::parse` answers.
-#[derive(Clone, Copy)]
-pub enum AmvHeaderResult {
-    Ok(AmvHeader),
-    Err(AmvError),
 }
 
 impl AmvHeader {
@@ -46,11 +39,11 @@ impl AmvHeader {
     }
 
     // The fields of a body; fewer than 56 bytes are refused with 28. What they hold is asked by `validate_sentinels`.
-    pub fn parse(body: &[u8]) -> AmvHeaderResult
-        ensures { said_header result ≡ header_of body.now }
+    pub fn parse(body: &[u8]) -> Result<AmvHeader, AmvError>
+        ensures { said result ≡ header_of body.now }
     {
         if body.len() < AmvHeader::LEN {
-            return AmvHeaderResult::Err(AmvError::HeaderTooShort);
+            return Err(AmvError::HeaderTooShort);
         }
         let header = AmvHeader {
             micros_per_frame: fields::read_u32_le(body, 0),
@@ -61,7 +54,7 @@ impl AmvHeader {
             reserved_30: fields::read_u32_le(body, 48),
             duration_packed: fields::read_u32_le(body, 52),
         };
-        AmvHeaderResult::Ok(header)
+        Ok(header)
     }
 
     // The run length. Refuses nothing.
@@ -81,21 +74,21 @@ impl AmvHeader {
 
     // Whether it is what a device writes. Refused in this order: fps 0 with 14, another quotient than 1,000,000/fps with 15, a flag that is
     // not 1 with 16, a reserved number that is not 0 with 17.
-    pub fn validate_sentinels(self) -> AmvResult
+    pub fn validate_sentinels(self) -> Result<(), AmvError>
         ensures { said result ≡ header_sentinels self }
     {
         if self.fps == 0 {
-            return AmvResult::Err(AmvError::ZeroFps);
+            return Err(AmvError::ZeroFps);
         }
         if self.micros_per_frame != 1000000 / self.fps {
-            return AmvResult::Err(AmvError::WrongMicros);
+            return Err(AmvError::WrongMicros);
         }
         if self.flag_one != 1 {
-            return AmvResult::Err(AmvError::WrongFlag);
+            return Err(AmvError::WrongFlag);
         }
         if self.reserved_30 != 0 {
-            return AmvResult::Err(AmvError::NonzeroReserved);
+            return Err(AmvError::NonzeroReserved);
         }
-        AmvResult::Ok
+        Ok(())
     }
 }

@@ -4,9 +4,9 @@ ghost use Rattle.std.specs.Int.{w16};
 ghost use Rattle.std.proofs.Common.{to_z};
 ghost use Rattle.error.specs.Refusal.{said};
 ghost use Rattle.fields.specs.Capped.{quotient};
-ghost use Rattle.parse.specs.Preamble.{preamble_of, said_preamble, preamble_sentinels, state_byte, nibble_bytes, padding_slack};
+ghost use Rattle.parse.specs.Preamble.{preamble_of, said, preamble_sentinels, state_byte, nibble_bytes, padding_slack};
 
-use error::{AmvError, AmvResult};
+use error::AmvError;
 
 // The preamble's length.
 pub const AMV_AUDIO_PREAMBLE_LEN: u64 = 8;
@@ -21,44 +21,30 @@ pub struct AmvAudioPreamble {
     pub decoded_sample_count: u32,
 }
 
-// What `AmvAudioPreamble::parse` answers.
-#[derive(Clone, Copy)]
-pub enum AmvAudioPreambleResult {
-    Ok(AmvAudioPreamble),
-    Err(AmvError),
-}
-
-// The bytes of a block beyond its nibbles, or none where the block is too short for them.
-#[derive(Clone, Copy)]
-pub enum PaddingSlack {
-    Some(u64),
-    None,
-}
-
 impl AmvAudioPreamble {
     // The preamble of a sound payload; fewer than 8 bytes are refused with 25.
-    pub fn parse(body: &[u8]) -> AmvAudioPreambleResult
-        ensures { said_preamble result ≡ preamble_of body.now }
+    pub fn parse(body: &[u8]) -> Result<AmvAudioPreamble, AmvError>
+        ensures { said result ≡ preamble_of body.now }
     {
         if body.len() < 8 {
-            return AmvAudioPreambleResult::Err(AmvError::PreambleTooShort);
+            return Err(AmvError::PreambleTooShort);
         }
         let state = fields::read_u32_le(body, 0);
         let decoded_sample_count = fields::read_u32_le(body, 4);
-        AmvAudioPreambleResult::Ok(AmvAudioPreamble {
+        Ok(AmvAudioPreamble {
             state,
             decoded_sample_count,
         })
     }
 
     // Whether the block holds samples; a count of 0 is refused with 26.
-    pub fn validate_sentinels(self) -> AmvResult
+    pub fn validate_sentinels(self) -> Result<(), AmvError>
         ensures { said result ≡ preamble_sentinels self }
     {
         if self.decoded_sample_count == 0 {
-            return AmvResult::Err(AmvError::NoSamples);
+            return Err(AmvError::NoSamples);
         }
-        AmvResult::Ok
+        Ok(())
     }
 
     // Whether the count is that of one frame interval. Refuses nothing; for fps 0 only a count of 0 is.
@@ -83,14 +69,14 @@ impl AmvAudioPreamble {
     }
 
     // How many bytes a payload of this length has after its samples; none where it is too short for them. Refuses nothing.
-    pub fn body_padding_slack(self, total_payload_len: u64) -> PaddingSlack
+    pub fn body_padding_slack(self, total_payload_len: u64) -> Option<u64>
         ensures { result ≡ padding_slack (8 + nibble_bytes self.decoded_sample_count) total_payload_len }
     {
         let exact = AMV_AUDIO_PREAMBLE_LEN + self.nibble_body_len();
         if total_payload_len < exact {
-            PaddingSlack::None
+            None
         } else {
-            PaddingSlack::Some(total_payload_len - exact)
+            Some(total_payload_len - exact)
         }
     }
 

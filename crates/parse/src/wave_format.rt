@@ -2,9 +2,9 @@
 ghost use Rattle.std.specs.Prelude.{◌≡◌};
 ghost use Rattle.error.specs.Refusal.{said};
 ghost use Rattle.fields.specs.Capped.{quotient};
-ghost use Rattle.parse.specs.WaveFormat.{new_wave_format, wave_format_of, said_wave_format, cb_size_of, wave_format_sentinels};
+ghost use Rattle.parse.specs.WaveFormat.{new_wave_format, wave_format_of, said, cb_size_of, wave_format_sentinels};
 
-use error::{AmvError, AmvResult};
+use error::AmvError;
 
 // Microsoft's fields, by its names.
 #[derive(Clone, Copy)]
@@ -16,13 +16,6 @@ pub struct AmvWaveFormat {
     pub block_align: u16,
     pub bits_per_sample: u16,
     pub cb_size: u16,
-}
-
-// What `AmvWaveFormat::parse` answers.
-#[derive(Clone, Copy)]
-pub enum AmvWaveFormatResult {
-    Ok(AmvWaveFormat),
-    Err(AmvError),
 }
 
 // A body shorter than that of a file has no `cbSize`: it counts as 0, whatever stands there.
@@ -59,11 +52,11 @@ impl AmvWaveFormat {
     }
 
     // The fields of a body; fewer than 18 bytes are refused with 27. What they hold is asked by `validate_sentinels`.
-    pub fn parse(body: &[u8]) -> AmvWaveFormatResult
-        ensures { said_wave_format result ≡ wave_format_of body.now }
+    pub fn parse(body: &[u8]) -> Result<AmvWaveFormat, AmvError>
+        ensures { said result ≡ wave_format_of body.now }
     {
         if body.len() < AmvWaveFormat::MIN_LEN {
-            return AmvWaveFormatResult::Err(AmvError::WaveFormatTooShort);
+            return Err(AmvError::WaveFormatTooShort);
         }
         let format = AmvWaveFormat {
             format_tag: fields::read_u16_le(body, 0),
@@ -74,7 +67,7 @@ impl AmvWaveFormat {
             bits_per_sample: fields::read_u16_le(body, 14),
             cb_size: cb_size(body),
         };
-        AmvWaveFormatResult::Ok(format)
+        Ok(format)
     }
 
     // The samples of one frame interval, 0 for fps 0. Refuses nothing.
@@ -86,27 +79,27 @@ impl AmvWaveFormat {
 
     // Whether it is what a device writes, at any sample rate. Refused in this order: format 19, channels 20, average 21, align 22, bits 23,
     // cbSize 24.
-    pub fn validate_sentinels(self) -> AmvResult
+    pub fn validate_sentinels(self) -> Result<(), AmvError>
         ensures { said result ≡ wave_format_sentinels self }
     {
         if self.format_tag != 1 {
-            return AmvResult::Err(AmvError::WrongFormat);
+            return Err(AmvError::WrongFormat);
         }
         if self.channels != 1 {
-            return AmvResult::Err(AmvError::WrongChannels);
+            return Err(AmvError::WrongChannels);
         }
         if self.avg_bytes_per_sec != fields::saturating_mul(self.samples_per_sec, 2) {
-            return AmvResult::Err(AmvError::WrongAverage);
+            return Err(AmvError::WrongAverage);
         }
         if self.block_align != 2 {
-            return AmvResult::Err(AmvError::WrongAlign);
+            return Err(AmvError::WrongAlign);
         }
         if self.bits_per_sample != 16 {
-            return AmvResult::Err(AmvError::WrongBits);
+            return Err(AmvError::WrongBits);
         }
         if self.cb_size != 0 {
-            return AmvResult::Err(AmvError::WrongCbSize);
+            return Err(AmvError::WrongCbSize);
         }
-        AmvResult::Ok
+        Ok(())
     }
 }

@@ -1,10 +1,13 @@
 -- How one call of the program goes on from another: writing calls one after the other, and the reads that are left. Assumes nothing.
 use mathlib.Core.Path.{◌≡◌, sym, ap, ap₂, ◌∙◌}
+use Rattle.error.specs.Refusal.{said}
+use Rattle.std.specs.Result.{Result, Ok, Err}
+use Rattle.std.specs.Option.{Option, None, Some}
+use Rattle.error.specs.declared.AmvError.{AmvError}
 use Prim.Native.Nat.{ℕ, suc, ◌-◌, ◌<◌, ◌≤◌}
 use mathlib.Core.List.{List}
 use native.Mathlib.Omega.{arith}
 use Rattle.demuxer.specs.Read.{Reading, said_next, said_read, read_of}
-use Rattle.demuxer.specs.declared.walker.NextPacket.{NextPacket}
 use Rattle.demuxer.specs.declared.walker.Read.{Read}
 use Rattle.demuxer.specs.declared.walker.Walker.{Walker}
 use Rattle.muxer.specs.Writer.{WriteOutcome, MeetsOutcome}
@@ -22,14 +25,14 @@ onwards f o first second =
     }
 
 -- one read of those that are left
-pub played-step : (n : ℕ) (file : List ℕ) (w : Walker) (r : Read) (a : NextPacket) → 0 < n → said_read file r ≡ read_of file w → r.answer ≡ a
+pub played-step : (n : ℕ) (file : List ℕ) (w : Walker) (r : Read) (a : Result (Option Packet) AmvError) → 0 < n → said_read file r ≡ read_of file w → r.answer ≡ a
     → played n file w ≡ go_on (said_next file a) r.walker (played (n - 1) file r.walker)
 unfolding played
 played-step n file w r a some said is =
     let one : n ≡ suc (n - 1) = omega (arith, some) in
     ap (λ (k : ℕ). played k file w) one
     ∙ ap (λ (x : Reading). go_on x.answer x.walker (played (n - 1) file x.walker)) (sym said)
-    ∙ ap (λ (y : NextPacket). go_on (said_next file y) r.walker (played (n - 1) file r.walker)) is
+    ∙ ap (λ (y : Result (Option Packet) AmvError). go_on (said_next file y) r.walker (played (n - 1) file r.walker)) is
 
 pub played-none : (n : ℕ) (file : List ℕ) (w : Walker) → n ≤ 0 → w ≡ played n file w
 unfolding played

@@ -8,15 +8,14 @@ ghost use Rattle.muxer.specs.Writer.{packet_call};
 ghost use Rattle.play.specs.Recording.{WriterLeft, pair_of, packets_of, recording_of, played};
 
 use amv::progress;
-use amv::progress::TrailerMatch;
 use amv::writer::AmvMuxer;
 use chunk_index::entry::ChunkIndexEntry;
-use chunk_index::index::{IndexResult, build_chunk_index};
+use chunk_index::index::build_chunk_index;
 use demuxer::packet::Packet;
-use demuxer::walker::{NextPacket, Trailer, Walker};
-use error::{AmvError, AmvResult};
+use demuxer::walker::Walker;
+use error::AmvError;
 use muxer::{Settings, Writer, Wrote};
-use seek::{SeekOutcome, SeekResult};
+use seek::SeekOutcome;
 use std::io;
 use std::io::Write;
 
@@ -73,12 +72,12 @@ fn print_wrote(printer: &mut Printer<impl Write + Drop>, what: &[u8], wrote: Wro
     print(printer, what);
     let result = wrote.result;
     match result {
-        AmvResult::Ok => {
+        Ok(()) => {
             let writer = wrote.writer;
             print_field(printer, b": the file has ", writer.written);
             print(printer, b" bytes\n")
         }
-        AmvResult::Err(error) => print_refusal(printer, error),
+        Err(error) => print_refusal(printer, error),
     }
 }
 
@@ -173,9 +172,9 @@ fn play(printer: &mut Printer<impl Write + Drop>, file: &[u8], start: Walker) ->
         let next = read.walker;
         walker = next;
         match answer {
-            NextPacket::Packet(packet) => print_packet(printer, file, packet),
-            NextPacket::End => return walker,
-            NextPacket::Err(error) => {
+            Ok(Some(packet)) => print_packet(printer, file, packet),
+            Ok(None) => return walker,
+            Err(error) => {
                 print(printer, b"read");
                 print_refusal(printer, error);
                 return walker;
@@ -187,12 +186,12 @@ fn play(printer: &mut Printer<impl Write + Drop>, file: &[u8], start: Walker) ->
 
 fn print_trailer(printer: &mut Printer<impl Write + Drop>, walker: Walker, len: u64) {
     match progress::trailer_offset(walker) {
-        Trailer::At(offset) => print_field(printer, b", trailer at ", offset),
-        Trailer::NotMet => print(printer, b", no trailer"),
+        Some(offset) => print_field(printer, b", trailer at ", offset),
+        None => print(printer, b", no trailer"),
     }
     match progress::trailer_matches_eof(walker, len) {
-        TrailerMatch::Matches(true) => print(printer, b" ends the file"),
-        TrailerMatch::Matches(false) | TrailerMatch::NotMet => {}
+        Some(true) => print(printer, b" ends the file"),
+        Some(false) | None => {}
     }
 }
 
@@ -221,11 +220,11 @@ fn print_sought(printer: &mut Printer<impl Write + Drop>, sought: SeekOutcome) {
     print(printer, b"jump");
     let result = sought.result;
     match result {
-        SeekResult::Ok(stamp) => {
+        Ok(stamp) => {
             print_field(printer, b" to stamp ", stamp);
             print(printer, b"\n")
         }
-        SeekResult::Err(error) => print_refusal(printer, error),
+        Err(error) => print_refusal(printer, error),
     }
 }
 
@@ -242,13 +241,13 @@ fn play_recording(printer: &mut Printer<impl Write + Drop>, file: &[u8]) {
     print_progress(printer, file, walker);
     let mut table = [0u8; TABLE_RECORDS * ChunkIndexEntry::LEN];
     match build_chunk_index(file, &mut table) {
-        IndexResult::Ok(count) => {
+        Ok(count) => {
             if count <= TABLE_RECORDS {
                 let records = first(&table, count * ChunkIndexEntry::LEN);
                 jump(printer, file, walker, records);
             }
         }
-        IndexResult::Err(error) => {
+        Err(error) => {
             print(printer, b"index");
             print_refusal(printer, error)
         }

@@ -1,5 +1,7 @@
 -- The prelude as it is read. Assumes nothing.
 use Rattle.std.specs.Prelude.{ℕ, zero, suc, ◌-◌, List, eqb, take, drop, get_or}
+use Rattle.std.specs.Result.{Result, Ok, Err}
+use Rattle.error.specs.declared.AmvError.{AmvError}
 use Rattle.error.specs.Answer.{Answer, accepted, refused, ask, and_then}
 use Rattle.error.specs.Refusal.{refusal_of}
 use Rattle.fields.specs.File.{within_limit}
@@ -7,8 +9,6 @@ use Rattle.parse.specs.Header.{header_fields, header_sentinels}
 use Rattle.parse.specs.WaveFormat.{wave_format_fields, wave_format_sentinels}
 use Rattle.prelude.specs.Layout.{prelude_len, layout, ask_items}
 use Rattle.prelude.specs.declared.prelude.AmvPrelude.{AmvPrelude}
-use Rattle.prelude.specs.declared.prelude.AmvPreludeResult.{AmvPreludeResult}
-use Rattle.prelude.specs.declared.prelude.AmvPreludeResult.TheVariants.{Ok, Err}
 
 -- the bytes from a start to an end
 abbrev pub between : ℕ → ℕ → List ℕ → List ℕ
@@ -51,6 +51,3 @@ validated_of p file =
 unfoldable pub strict_of : List ℕ → Answer AmvPrelude
 strict_of file = and_then (parse_of file) (λ p. validated_of p file)
 
-abbrev pub said_prelude : AmvPreludeResult → Answer AmvPrelude
-said_prelude (Ok p) = accepted p
-said_prelude (Err e) = refused (refusal_of e)

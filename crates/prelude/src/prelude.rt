@@ -3,12 +3,12 @@ ghost use Rattle.std.specs.Prelude.{◌≡◌, ◌+◌, ◌≤◌, length, leb};
 ghost use Rattle.error.specs.Answer.{accepted};
 ghost use Rattle.error.specs.Refusal.{refusal_of, said};
 ghost use Rattle.prelude.specs.Layout.{prelude_len, layout, ask_word, ask_body, ask_item, ask_items};
-ghost use Rattle.prelude.specs.Prelude.{said_prelude, prelude_fields, parse_of, zeros, zero_ranges, validated_of, strict_of};
+ghost use Rattle.prelude.specs.Prelude.{said, prelude_fields, parse_of, zeros, zero_ranges, validated_of, strict_of};
 
 use crate::layout::LayoutItem;
-use error::{AmvError, AmvResult};
-use parse::header::{AmvHeader, AmvHeaderResult};
-use parse::wave_format::{AmvWaveFormat, AmvWaveFormatResult};
+use error::AmvError;
+use parse::header::AmvHeader;
+use parse::wave_format::AmvWaveFormat;
 
 // The two bodies.
 const HEADER_START: usize = 32;
@@ -27,13 +27,6 @@ pub struct AmvPrelude {
     pub movi_payload_start: u64,
 }
 
-// What the two parses answer.
-#[derive(Clone, Copy)]
-pub enum AmvPreludeResult {
-    Ok(AmvPrelude),
-    Err(AmvError),
-}
-
 // Whether the file has len bytes from a place on.
 fn reaches(file: &[u8], place: usize, len: usize) -> bool
     ensures { result ≡ leb (place + len) (length file.now) }
@@ -48,33 +41,33 @@ fn reaches(file: &[u8], place: usize, len: usize) -> bool
 }
 
 // A tag or a size: the four bytes are there, and they are the ones expected, or else it is refused as wrong.
-fn require_word(file: &[u8], place: usize, expected: u32, wrong: AmvError) -> AmvResult
+fn require_word(file: &[u8], place: usize, expected: u32, wrong: AmvError) -> Result<(), AmvError>
     ensures { said result ≡ ask_word file.now place expected (refusal_of wrong) }
 {
     if reaches(file, place, 4) {
         if fields::read_u32_le(file, place) == expected {
-            AmvResult::Ok
+            Ok(())
         } else {
-            AmvResult::Err(wrong)
+            Err(wrong)
         }
     } else {
-        AmvResult::Err(AmvError::PreludeCut(place as u64))
+        Err(AmvError::PreludeCut(place as u64))
     }
 }
 
 // A body is there as a whole.
-fn require_body(file: &[u8], place: usize, len: usize) -> AmvResult
+fn require_body(file: &[u8], place: usize, len: usize) -> Result<(), AmvError>
     ensures { said result ≡ ask_body file.now place len }
 {
     if reaches(file, place, len) {
-        AmvResult::Ok
+        Ok(())
     } else {
-        AmvResult::Err(AmvError::PreludeCut(place as u64))
+        Err(AmvError::PreludeCut(place as u64))
     }
 }
 
 // The question of one item.
-fn require_item(file: &[u8], item: LayoutItem) -> AmvResult
+fn require_item(file: &[u8], item: LayoutItem) -> Result<(), AmvError>
     ensures { said result ≡ ask_item file.now item }
 {
     match item {
@@ -95,22 +88,22 @@ fn require_item(file: &[u8], item: LayoutItem) -> AmvResult
 }
 
 // The first item that says no.
-fn require_layout(file: &[u8]) -> AmvResult
+fn require_layout(file: &[u8]) -> Result<(), AmvError>
     ensures { said result ≡ ask_items file.now layout }
 {
     let mut i = 0;
     while i < LayoutItem::COUNT {
         let required = require_item(file, LayoutItem::at(i));
-        let AmvResult::Ok = required else {
+        let Ok(()) = required else {
             return required;
         };
         i += 1;
     }
-    AmvResult::Ok
+    Ok(())
 }
 
 // Len bytes from a place on are zero, or the first that is not is refused.
-fn require_all_zero(file: &[u8], place: usize, len: usize) -> AmvResult
+fn require_all_zero(file: &[u8], place: usize, len: usize) -> Result<(), AmvError>
     requires { place + len ≤ length file.now }
     ensures { said result ≡ zeros file.now place len }
 {
@@ -118,28 +111,28 @@ fn require_all_zero(file: &[u8], place: usize, len: usize) -> AmvResult
     while i < len {
         let at = place + i;
         if file[at] != 0 {
-            return AmvResult::Err(AmvError::NonzeroByte(at as u64));
+            return Err(AmvError::NonzeroByte(at as u64));
         }
         i += 1;
     }
-    AmvResult::Ok
+    Ok(())
 }
 
 // The stretches that a device leaves zero.
-fn require_zero_ranges(file: &[u8]) -> AmvResult
+fn require_zero_ranges(file: &[u8]) -> Result<(), AmvError>
     requires { prelude_len ≤ length file.now }
     ensures { said result ≡ zero_ranges file.now }
 {
     let reserved = require_all_zero(file, 36, 28);
-    let AmvResult::Ok = reserved else {
+    let Ok(()) = reserved else {
         return reserved;
     };
     let video_strh = require_all_zero(file, 108, 56);
-    let AmvResult::Ok = video_strh else {
+    let Ok(()) = video_strh else {
         return video_strh;
     };
     let video_strf = require_all_zero(file, 172, 36);
-    let AmvResult::Ok = video_strf else {
+    let Ok(()) = video_strf else {
         return video_strf;
     };
     require_all_zero(file, 228, 48)
@@ -151,32 +144,32 @@ impl AmvPrelude {
 
     // The prelude of a file, for every reader. A file past the limit is refused with 10; then item by item in offset order 11 for one that
     // the file cuts off, 12 for another tag, 13 for another size, each at the item's start.
-    pub fn parse(file: &[u8]) -> AmvPreludeResult
-        ensures { said_prelude result ≡ parse_of file.now }
+    pub fn parse(file: &[u8]) -> Result<AmvPrelude, AmvError>
+        ensures { said result ≡ parse_of file.now }
     {
         if !fields::file::within_limit(file) {
-            return AmvPreludeResult::Err(AmvError::FileTooLong);
+            return Err(AmvError::FileTooLong);
         }
         match require_layout(file) {
-            AmvResult::Err(e) => AmvPreludeResult::Err(e),
-            AmvResult::Ok => AmvPrelude::read(file),
+            Err(e) => Err(e),
+            Ok(()) => AmvPrelude::read(file),
         }
     }
 
     // The two bodies, of a file that has them.
-    fn read(file: &[u8]) -> AmvPreludeResult
+    fn read(file: &[u8]) -> Result<AmvPrelude, AmvError>
         requires { prelude_len ≤ length file.now }
-        ensures { said_prelude result ≡ accepted (prelude_fields file.now) }
+        ensures { said result ≡ accepted (prelude_fields file.now) }
     {
         let header = match AmvHeader::parse(&file[HEADER_START..HEADER_END]) {
-            AmvHeaderResult::Ok(header) => header,
-            AmvHeaderResult::Err(e) => return AmvPreludeResult::Err(e),
+            Ok(header) => header,
+            Err(e) => return Err(e),
         };
         let audio_format = match AmvWaveFormat::parse(&file[WAVE_FORMAT_START..WAVE_FORMAT_END]) {
-            AmvWaveFormatResult::Ok(format) => format,
-            AmvWaveFormatResult::Err(e) => return AmvPreludeResult::Err(e),
+            Ok(format) => format,
+            Err(e) => return Err(e),
         };
-        AmvPreludeResult::Ok(AmvPrelude {
+        Ok(AmvPrelude {
             header,
             audio_format,
             movi_payload_start: AmvPrelude::LEN as u64,
@@ -185,31 +178,31 @@ impl AmvPrelude {
 
     // The same, and whether it is what a device writes: after 10 to 13 the header's 14 to 17, then 18 at the first byte that is not zero, then
     // the wave format's 19 to 24.
-    pub fn parse_strict(file: &[u8]) -> AmvPreludeResult
-        ensures { said_prelude result ≡ strict_of file.now }
+    pub fn parse_strict(file: &[u8]) -> Result<AmvPrelude, AmvError>
+        ensures { said result ≡ strict_of file.now }
     {
         match AmvPrelude::parse(file) {
-            AmvPreludeResult::Err(e) => AmvPreludeResult::Err(e),
-            AmvPreludeResult::Ok(prelude) => prelude.validated(file),
+            Err(e) => Err(e),
+            Ok(prelude) => prelude.validated(file),
         }
     }
 
     // What parse_strict goes on to ask.
-    fn validated(self, file: &[u8]) -> AmvPreludeResult
+    fn validated(self, file: &[u8]) -> Result<AmvPrelude, AmvError>
         requires { prelude_len ≤ length file.now }
-        ensures { said_prelude result ≡ validated_of self file.now }
+        ensures { said result ≡ validated_of self file.now }
     {
         let header = self.header;
-        if let AmvResult::Err(e) = header.validate_sentinels() {
-            return AmvPreludeResult::Err(e);
+        if let Err(e) = header.validate_sentinels() {
+            return Err(e);
         }
-        if let AmvResult::Err(e) = require_zero_ranges(file) {
-            return AmvPreludeResult::Err(e);
+        if let Err(e) = require_zero_ranges(file) {
+            return Err(e);
         }
         let audio_format = self.audio_format;
-        if let AmvResult::Err(e) = audio_format.validate_sentinels() {
-            return AmvPreludeResult::Err(e);
+        if let Err(e) = audio_format.validate_sentinels() {
+            return Err(e);
         }
-        AmvPreludeResult::Ok(self)
+        Ok(self)
     }
 }

@@ -1,5 +1,6 @@
 -- A finished recording, cut to n bytes: by the walk over them (walk/proofs/Cut), of which reads, index, summary and check are folds. Assumes nothing.
 use mathlib.Core.Path.{◌≡◌, refl, sym, ap, ◌∙◌, subst, transport}
+use Rattle.std.specs.Option.{Option, None, Some}
 use mathlib.Core.Bool.{Bool, true, false}
 use mathlib.Core.List.{List, ◌∷◌}
 use Prim.Native.Nat.{ℕ, ◌+◌, ◌≤◌, ◌<◌, min}
@@ -26,7 +27,6 @@ use Rattle.demuxer.specs.Packet.{Shown}
 use Rattle.demuxer.specs.Position.{start}
 use Rattle.demuxer.specs.Read.{fresh}
 use Rattle.demuxer.specs.declared.position.Position.{Position}
-use Rattle.demuxer.specs.declared.walker.Trailer.TheVariants.{At, NotMet}
 use Rattle.walk.specs.Chunks.{Chunk, chunk_of, chunks_bytes}
 use Rattle.walk.specs.Walk.{ran_out, trailer, Walk, walk, file_walk}
 use Rattle.walk.specs.declared.Kind.{Kind}
@@ -135,7 +135,7 @@ same-position c f s b =
 
 -- past the first k chunks
 ended-position : (cs done : List Chunk) (k : ℕ) → done ≡ take k cs
-    → position_at start (length done) done ≡ (ended_at cs k true NotMet).position
+    → position_at start (length done) done ≡ (ended_at cs k true None).position
 ended-position cs done k e =
     let n = counted start (length done) done in
     let d : take (length done) done ≡ take k cs = take-length done ∙ e in
@@ -198,11 +198,11 @@ module _ (file : List ℕ) (cs : List Chunk) (fin : Finished file cs) where
       pub reads : Bytes file → ReadWalk (take n file) start (file_walk (take n file))
       reads bytes = read_walk (take n file) (bytes_take n file bytes) fits (all_known n cut-walk prelude_len)
 
-      drained : Bytes file → ReadsUntilEnd (take n file) fresh (survivors n cs) (ended_at cs (length (survivors n cs)) true NotMet)
+      drained : Bytes file → ReadsUntilEnd (take n file) fresh (survivors n cs) (ended_at cs (length (survivors n cs)) true None)
       drained bytes =
-          let r = reads-drain (reads bytes) false NotMet in
+          let r = reads-drain (reads bytes) false None in
           let p = ended-position cs (wholes_of (file_walk (take n file))) (length (survivors n cs)) first_chunks in
-          transport (λ i. ReadsUntilEnd (take n file) fresh (sym survivors_are i) (ended_by (runs_out n cut-walk i) (standing (p i) false NotMet))) r
+          transport (λ i. ReadsUntilEnd (take n file) fresh (sym survivors_are i) (ended_by (runs_out n cut-walk i) (standing (p i) false None))) r
 
       survives : Bytes file → Survives file cs n
       unfolding index_of summary_of
@@ -227,14 +227,14 @@ module _ (file : List ℕ) (cs : List Chunk) (fin : Finished file cs) where
 
   -- all of it
   at-full-length : Bytes file
-      → ReadsUntilEnd (take (length file) file) fresh (drain cs) (ended_at cs (length cs) false (At (offset_of cs (length cs))))
+      → ReadsUntilEnd (take (length file) file) fresh (drain cs) (ended_at cs (length cs) false (Some (offset_of cs (length cs))))
   at-full-length bytes =
       let w = finished-walk file cs fin in
-      let r = reads-drain (read_walk file bytes fin.fits (ap (tags_known prelude_len) w ∙ tags_known_lem prelude_len cs 0)) false NotMet in
+      let r = reads-drain (read_walk file bytes fin.fits (ap (tags_known prelude_len) w ∙ tags_known_lem prelude_len cs 0)) false None in
       let d : wholes_of (file_walk file) ≡ cs = ap wholes_of w ∙ all_whole cs 0 in
       let s : stop_of (file_walk file) ≡ trailer 0 = ap stop_of w ∙ at-trailer cs 0 in
       let p = ap (λ (l : List Chunk). position_at start (length l) l) d ∙ ended-position cs cs (length cs) (sym (take-length cs)) in
-      rw (take-length file) (transport (λ i. ReadsUntilEnd file fresh (drain (d i)) (ended_by (s i) (standing (p i) false NotMet))) r)
+      rw (take-length file) (transport (λ i. ReadsUntilEnd file fresh (drain (d i)) (ended_by (s i) (standing (p i) false None))) r)
 
 pub cut_recordings : CutRecordings
 cut_recordings =

@@ -1,9 +1,9 @@
 -- Reads of any file, along its walk: at a whole chunk every walker that has not ended is given its packet, and where the walk stops, or a chunk is
 -- cut, End. So reads until their first End give the drain of the whole chunks, and leave the walker where the walk stops. Assumes nothing.
 use mathlib.Core.Path.{◌≡◌, refl, sym, ap, ◌∙◌, subst}
+use Rattle.std.specs.Option.{Option, None, Some}
 use mathlib.Core.Bool.{Bool, true, false}
 use mathlib.Core.List.{List, [], ◌∷◌}
-use mathlib.Core.Option.{some}
 use Prim.Native.Nat.{ℕ, zero, suc, ◌+◌, ◌≤◌, ◌<◌}
 use native.Mathlib.Nat.{le_of_suc-le-suc, not-suc-le-zero}
 use native.Mathlib.Omega.{arith}
@@ -21,7 +21,6 @@ use Rattle.demuxer.specs.Read.{Reading, packet, End, cut_off, at_trailer, payloa
 use Rattle.demuxer.specs.declared.head.Head.{Head}
 use Rattle.demuxer.specs.declared.head.Head.TheVariants as head
 use Rattle.demuxer.specs.declared.position.Position.{Position}
-use Rattle.demuxer.specs.declared.walker.Trailer.{Trailer}
 use Rattle.demuxer.specs.declared.walker.Walker.{Walker}
 use Rattle.demuxer.proofs.Sentences.{looks}
 use Rattle.walk.specs.Chunks.{Chunk, chunk_of, walk_of}
@@ -57,7 +56,7 @@ at-trailer (chunk_of kind payload ∷ cs) n = at-trailer cs n
 -- ---- the reads at each position of a walk
 
 -- a walker that has not ended, with these marks
-abbrev pub standing : Position → Bool → Trailer → Walker
+abbrev pub standing : Position → Bool → Option ℕ → Walker
 standing p cut t = record { position = p; end = false; cut = cut; trailer = t }
 
 -- what End leaves where a walk stops; at an unknown tag there is no End
@@ -78,13 +77,13 @@ pub record Headed (p : Position) : Type 0 where
 -- a walk from a position on, with what every read at each of its positions gives
 pub data ReadWalk (file : List ℕ) : Position → Walk → Type 0 where
   stops : {p : Position} {s : Stop} → Stood p
-      → ((cut : Bool) (t : Trailer) → read_of file (standing p cut t) ≡ record { answer = End; walker = ended_by s (standing p cut t) })
+      → ((cut : Bool) (t : Option ℕ) → read_of file (standing p cut t) ≡ record { answer = End; walker = ended_by s (standing p cut t) })
       → ReadWalk file p (stop s)
   cut_short : {p : Position} {kind : Kind} {part : List ℕ} {missing : ℕ} → Headed p → 0 < missing
-      → ((cut : Bool) (t : Trailer) → read_of file (standing p cut t) ≡ record { answer = End; walker = cut_off (standing p cut t) })
+      → ((cut : Bool) (t : Option ℕ) → read_of file (standing p cut t) ≡ record { answer = End; walker = cut_off (standing p cut t) })
       → ReadWalk file p (chunk kind part missing (stop ran_out))
   whole : {p : Position} {kind : Kind} {payload : List ℕ} {rest : Walk} → Headed p
-      → ((cut : Bool) (t : Trailer)
+      → ((cut : Bool) (t : Option ℕ)
       → read_of file (standing p cut t) ≡ record { answer = packet (shown_at p kind payload); walker = standing (passed p kind payload) cut t })
       → ReadWalk file (passed p kind payload) rest → ReadWalk file p (chunk kind payload 0 rest)
 
@@ -98,7 +97,7 @@ module _ (file : List ℕ) (bytes : Bytes file) (fits : length file ≤ file_lim
 
   module _ (p : Position) (h : Stood p) (known : Known p) where
     -- a read looks at what stands there
-    reads : {x : Head} → head_at file p.cursor ≡ x → (cut : Bool) (t : Trailer) → read_of file (standing p cut t) ≡ read_head file (standing p cut t) x
+    reads : {x : Head} → head_at file p.cursor ≡ x → (cut : Bool) (t : Option ℕ) → read_of file (standing p cut t) ≡ read_head file (standing p cut t) x
     reads e cut t = looks file (standing p cut t) fits (walked_range p h.walked h.within) refl e
 
     abbrev Later : Type 0
@@ -177,17 +176,17 @@ module _ (file : List ℕ) (bytes : Bytes file) (fits : length file ≤ file_lim
 
 -- position k of these whole chunks, after which the walk stops
 pub data ReadAt (file : List ℕ) (p : Position) (ws : List Chunk) (s : Stop) (k : ℕ) : Type 0 where
-  gives_one : (shown : Shown) → k < length ws → get_elem? (drain_at p ws) k ≡ some shown
-      → ((cut : Bool) (t : Trailer)
+  gives_one : (shown : Shown) → k < length ws → get_elem? (drain_at p ws) k ≡ Some shown
+      → ((cut : Bool) (t : Option ℕ)
       → read_of file (standing (position_at p k ws) cut t) ≡ record { answer = packet shown; walker = standing (position_at p (suc k) ws) cut t })
       → ReadAt file p ws s k
   gives_none : length ws ≡ k
-      → ((cut : Bool) (t : Trailer)
+      → ((cut : Bool) (t : Option ℕ)
       → read_of file (standing (position_at p k ws) cut t) ≡ record { answer = End; walker = ended_by s (standing (position_at p k ws) cut t) })
       → ReadAt file p ws s k
 
 no_chunk : {file : List ℕ} {p : Position} {s : Stop}
-    → ((cut : Bool) (t : Trailer) → read_of file (standing p cut t) ≡ record { answer = End; walker = ended_by s (standing p cut t) })
+    → ((cut : Bool) (t : Option ℕ) → read_of file (standing p cut t) ≡ record { answer = End; walker = ended_by s (standing p cut t) })
     → (k : ℕ) → k ≤ 0 → ReadAt file p [] s k
 unfolding position_at
 no_chunk r zero l = gives_none refl r
@@ -223,7 +222,7 @@ ranged (whole h r later) (suc k) l = ranged later k (le_of_suc-le-suc l)
 -- ---- reads until End
 
 -- they give the packets of the whole chunks, and leave the walker where the walk stops
-pub reads-drain : {file : List ℕ} {p : Position} {v : Walk} → ReadWalk file p v → (cut : Bool) (t : Trailer)
+pub reads-drain : {file : List ℕ} {p : Position} {v : Walk} → ReadWalk file p v → (cut : Bool) (t : Option ℕ)
     → ReadsUntilEnd file (standing p cut t) (drain_at p (wholes_of v))
     (ended_by (stop_of v) (standing (position_at p (length (wholes_of v)) (wholes_of v)) cut t))
 unfolding wholes_of stop_of drain_from position_at

@@ -1,6 +1,7 @@
 -- Every list of reads and seeks on a finished recording answers as the plain machine: its walk is all whole chunks, each of which has a record, so the
 -- machine of the file is the plain one, and this is what is claimed of every file that has an index. Assumes nothing.
 use mathlib.Core.Path.{◌≡◌, refl, ap, ◌∙◌, subst}
+use Rattle.error.specs.Refusal.{said}
 use mathlib.Core.List.{List, [], ◌∷◌}
 use Prim.Native.Nat.{ℕ, ◌<◌}
 use lib.ListN.{length, drop}

@@ -1,7 +1,7 @@
 -- Where a walker stands after k chunks. Assumes nothing.
 use mathlib.Core.Path.{◌≡◌, refl, sym, ap, ◌∙◌}
+use Rattle.std.specs.Option.{Option, None, Some}
 use mathlib.Core.List.{List, [], ◌∷◌}
-use mathlib.Core.Option.{some}
 use Prim.Native.Nat.{ℕ, zero, suc, ◌+◌}
 use native.Mathlib.Omega.{arith}
 use lib.ListN.{length, take, length-append}
@@ -29,7 +29,7 @@ past-passed p Sound payload e = ap (λ (n : ℕ). past_sound p n (count_of paylo
 
 -- the packet of a chunk that stands at a position
 abbrev pub shown_at : Position → Kind → List ℕ → Shown
-shown_at p Frame payload = record { stream = 0; payload = payload; stamp = p.frames.0; duration = some 1 }
+shown_at p Frame payload = record { stream = 0; payload = payload; stamp = p.frames.0; duration = Some 1 }
 shown_at p Sound payload = record { stream = 1; payload = payload; stamp = p.samples.0; duration = ticks (packet_duration (count_of payload)) }
 
 -- past k chunks

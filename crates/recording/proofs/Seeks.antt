@@ -1,8 +1,8 @@
 -- What a seek finds among the records of chunks: the first one that the machine goes to, with its stamp. Assumes nothing.
 use mathlib.Core.Path.{◌≡◌, refl, ap}
+use Rattle.std.specs.Option.{Option, None, Some}
 use mathlib.Core.Bool.{Bool, true, false, cond, ◌&&◌}
 use mathlib.Core.List.{List, [], ◌∷◌}
-use mathlib.Core.Option.{none, some}
 use Prim.Native.Nat.{ℕ, zero, suc, ◌≤◌, ◌<◌, suc-le-suc}
 use native.Mathlib.Nat.{zero-lt-suc}
 use native.Mathlib.Omega.{arith}
@@ -58,14 +58,14 @@ pub record Hit (stream : ℕ) (request : ℤ) (p : Position) (cs : List Chunk) :
   pub at : Position
   pub first-is : first stream request (drain_at p cs) ≡ num
   pub inside : num < length cs
-  pub found : find stream request (records_of p cs) ≡ some at
+  pub found : find stream request (records_of p cs) ≡ Some at
   pub at-is : at ≡ position_at p num cs
-  pub shown-is : get_elem? (drain_at p cs) num ≡ some shown
+  pub shown-is : get_elem? (drain_at p cs) num ≡ Some shown
   pub stamp-is : shown.stamp ≡ stamp_of stream at
 
 pub data Finds (stream : ℕ) (request : ℤ) (p : Position) (cs : List Chunk) : Type 0 where
   hit : Hit stream request p cs → Finds stream request p cs
-  miss : find stream request (records_of p cs) ≡ none → first stream request (drain_at p cs) ≡ length cs → Finds stream request p cs
+  miss : find stream request (records_of p cs) ≡ None → first stream request (drain_at p cs) ≡ length cs → Finds stream request p cs
 
 pub finds : (stream : ℕ) (request : ℤ) (p : Position) (cs : List Chunk) → stream ≤ 1 → Finds stream request p cs
 unfolding find position_at records_of

@@ -1,6 +1,7 @@
 -- The summary counts what reads give. Of every file these are the packets of the whole chunks of its walk, and so are the counts, by induction along
 -- it; of a finished recording, by its chunks. Assumes nothing.
 use mathlib.Core.Path.{◌≡◌, refl, sym, ap, ◌∙◌}
+use Rattle.std.specs.Option.{Option, None, Some}
 use mathlib.Core.Bool.{false}
 use mathlib.Core.List.{List, [], ◌∷◌}
 use Prim.Native.Nat.{ℕ, suc, ◌+◌}
@@ -17,7 +18,6 @@ use Rattle.demuxer.specs.Packet.{Shown}
 use Rattle.demuxer.specs.Position.{start}
 use Rattle.demuxer.specs.Read.{fresh}
 use Rattle.demuxer.specs.declared.position.Position.{Position}
-use Rattle.demuxer.specs.declared.walker.Trailer.TheVariants.{NotMet}
 use Rattle.walk.specs.Chunks.{Chunk, chunk_of, walk_of}
 use Rattle.walk.specs.Walk.{Walk, file_walk}
 use Rattle.walk.specs.declared.Kind.{Kind}
@@ -75,7 +75,7 @@ plays file bytes s e =
     let b = then-accepted (tags_known prelude_len (file_walk file)) (λ _. accepted (counts_from none_counted (file_walk file))) a.1 in
     let fits = leb-true (length file) file_limit a.0 in
     let r = read_walk file bytes fits b.1 in
-    (_, (packets-left (reads-drain r false NotMet), sym (accepted-same b.2) ∙ walk_counts r))
+    (_, (packets-left (reads-drain r false None), sym (accepted-same b.2) ∙ walk_counts r))
 
 -- ---- a finished recording
 

@@ -1,5 +1,6 @@
 -- Every list of writing calls that completes a file leaves a finished one, which drains to the accepted packets. Assumes nothing.
 use mathlib.Core.Path.{◌≡◌, refl, sym, ap, ◌∙◌}
+use Rattle.error.specs.Refusal.{said}
 use mathlib.Core.Logic.{◌⊎◌, inl, inr}
 use mathlib.Core.Bool.{Bool, true, false, cond, ◌&&◌}
 use mathlib.Core.List.Memᴰ

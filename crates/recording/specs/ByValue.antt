@@ -7,7 +7,7 @@ use Rattle.demuxer.specs.Read.{said_next, said_read, read_of}
 use Rattle.demuxer.specs.Read as demuxer
 use Rattle.demuxer.specs.declared.walker.Read.{Read}
 use Rattle.demuxer.specs.declared.walker.Walker.{Walker}
-use Rattle.seek.specs.Seek.{said_seek, said_seek_outcome, seek_of}
+use Rattle.seek.specs.Seek.{said_seek_outcome, seek_of}
 use Rattle.seek.specs.declared.SeekOutcome.{SeekOutcome}
 use Rattle.muxer.specs.Writer.{MeetsOutcome}
 use Rattle.muxer.specs.Writer as muxer
@@ -26,7 +26,7 @@ pub data WalkerStep (file table : List ℕ) : Walker → Call → CallAnswer →
   reads : {w : Walker} (r : Read) → said_read file r ≡ read_of file w
       → WalkerStep file table w read (read_answer (said_next file r.answer)) r.walker
   seeks : {w : Walker} {stream : ℕ} {request : ℤ} (r : SeekOutcome) → said_seek_outcome r ≡ seek_of table w stream request
-      → WalkerStep file table w (seek stream request) (seek_answer (said_seek r.result)) r.walker
+      → WalkerStep file table w (seek stream request) (seek_answer (said r.result)) r.walker
 
 -- `write_header`, `write_packet` and `write_trailer`
 pub data WriterStep : Lent Writer → WriteCall → Answer Unit → Lent Writer → Type 0 where

@@ -1,6 +1,7 @@
 -- Which packets survive a supply drop: M-107 of document 02, as a claim about every finished recording and every length that it is cut to.
 -- Assumes nothing.
 use Rattle.std.specs.Prelude.{◌≡◌, ℕ, suc, ◌+◌, ◌≤◌, ◌<◌, min, Bool, true, false, cond, leb, length, take}
+use Rattle.std.specs.Option.{Option, None, Some}
 use mathlib.Core.List.{List, [], ◌∷◌, ◌++◌, Memᴰ}
 use Rattle.chunk.specs.Chunk.{trailer_bytes}
 use Rattle.error.specs.Answer.{accepted, refused, numbered}
@@ -10,8 +11,6 @@ use Rattle.prelude.specs.Layout.{prelude_len, layout, first_cut}
 use Rattle.prelude.specs.Prelude.{parse_of, strict_of}
 use Rattle.demuxer.specs.Packet.{Shown}
 use Rattle.demuxer.specs.Read.{packet, End, fresh, read_of}
-use Rattle.demuxer.specs.declared.walker.Trailer.{Trailer}
-use Rattle.demuxer.specs.declared.walker.Trailer.TheVariants.{At, NotMet}
 use Rattle.demuxer.specs.declared.walker.Walker.{Walker}
 use Rattle.walk.specs.Chunks.{Chunk, chunk_of, chunks_bytes}
 use Rattle.walk.specs.declared.Kind.TheVariants.{Frame, Sound}
@@ -64,7 +63,7 @@ abbrev pub offset_of : List Chunk → ℕ → ℕ
 offset_of cs k = prelude_len + length (chunks_bytes (take k cs))
 
 -- a walker that has ended there, past k chunks, with these marks
-abbrev pub ended_at : List Chunk → ℕ → Bool → Trailer → Walker
+abbrev pub ended_at : List Chunk → ℕ → Bool → Option ℕ → Walker
 ended_at cs k cut trailer =
     record {
       position =
@@ -82,7 +81,7 @@ ended_at cs k cut trailer =
 -- what reads, index and summary give of the first n bytes of a file with these chunks
 pub record Survives (file : List ℕ) (cs : List Chunk) (n : ℕ) : Type 0 where
   -- "draining gives exactly the packets whose chunk ends within the cut .. then End with cut set", and no trailer is met
-  pub drained : ReadsUntilEnd (take n file) fresh (survivors n cs) (ended_at cs (length (survivors n cs)) true NotMet)
+  pub drained : ReadsUntilEnd (take n file) fresh (survivors n cs) (ended_at cs (length (survivors n cs)) true None)
   -- "equal to the first ones of the full drain"
   pub first_packets : survivors n cs ≡ take (length (survivors n cs)) (drain cs)
   -- packet number k is among them exactly when its chunk ends within the cut, a second time: by where the next chunk, or the trailer, starts
@@ -128,7 +127,7 @@ pub record CutRecordings : Type 0 where
       → check_of (take n file) ≡ refused (numbered 60 (offset_of cs (length (survivors n cs))))
   -- "At full length the trailer is found and cut stays clear."
   pub whole : (file : List ℕ) (cs : List Chunk) → Bytes file → Finished file cs
-      → ReadsUntilEnd (take (length file) file) fresh (drain cs) (ended_at cs (length cs) false (At (offset_of cs (length cs))))
+      → ReadsUntilEnd (take (length file) file) fresh (drain cs) (ended_at cs (length cs) false (Some (offset_of cs (length cs))))
   -- The supply drops while a recording is written, so that it was never finished. Such a file is one of these cuts: followed by a trailer
   -- it is a finished recording, which drains to the packets that were accepted.
   pub unfinished : (s : Settings) (buf : List ℕ) (calls : List WriteCall) → UnderWay s buf calls

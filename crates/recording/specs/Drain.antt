@@ -1,6 +1,6 @@
 -- The full drain. Assumes nothing.
 use Rattle.std.specs.Prelude.{ℕ, suc, ◌+◌, List, [], ◌∷◌}
-use Rattle.std.proofs.Math.Option.{some}
+use Rattle.std.specs.Option.{Option, None, Some}
 use Rattle.demuxer.specs.Head.{count_of}
 use Rattle.demuxer.specs.Packet.{Shown, packet_duration, ticks}
 use Rattle.walk.specs.Chunks.{Chunk, chunk_of}
@@ -11,7 +11,7 @@ use Rattle.walk.specs.declared.Kind.TheVariants.{Frame, Sound}
 unfoldable pub drain_from : ℕ → ℕ → List Chunk → List Shown
 drain_from frames samples [] = []
 drain_from frames samples (chunk_of Frame payload ∷ cs) =
-    record { stream = 0; payload = payload; stamp = frames; duration = some 1 } ∷ drain_from (frames + 1) samples cs
+    record { stream = 0; payload = payload; stamp = frames; duration = Some 1 } ∷ drain_from (frames + 1) samples cs
 drain_from frames samples (chunk_of Sound payload ∷ cs) =
     record { stream = 1; payload = payload; stamp = samples; duration = ticks (packet_duration (count_of payload)) }
     ∷ drain_from frames (samples + count_of payload) cs

@@ -1,15 +1,14 @@
 -- Reads and seeks on every file that has an index: finished, cut at any byte, with bytes after its trailer, with any prelude. The plain machine of
 -- such a file, and the claim about every list of calls. Assumes nothing.
 use Rattle.std.specs.Prelude.{◌≡◌, ℕ, ◌+◌, ◌<◌, Bool, true, false, not, cond, ◌||◌, List, [], ◌∷◌, eqb, length, take, drop}
-use Rattle.std.proofs.Math.Option.{some}
+use Rattle.error.specs.Refusal.{said}
+use Rattle.std.specs.Option.{Option, None, Some}
 use Rattle.std.proofs.Math.ListN.{get_elem?}
 use Rattle.error.specs.Answer.{refused, numbered}
 use Rattle.fields.specs.Le.{Bytes}
 use Rattle.prelude.specs.Layout.{prelude_len}
 use Rattle.demuxer.specs.Position.{start}
 use Rattle.demuxer.specs.Read.{fresh}
-use Rattle.demuxer.specs.declared.walker.Trailer.{Trailer}
-use Rattle.demuxer.specs.declared.walker.Trailer.TheVariants.{At, NotMet}
 use Rattle.demuxer.specs.declared.walker.Walker.{Walker}
 use Rattle.walk.specs.Chunks.{Chunk, chunk_of, chunks_bytes}
 use Rattle.walk.specs.Walk.{Stop, ran_out, trailer, unknown_tag, Walk, stop, chunk, file_walk}
@@ -84,10 +83,10 @@ cut_by (trailer n) met = false
 cut_by unknown_tag met = false
 
 -- the trailer at an offset: "sets end and trailer"
-abbrev pub trailer_by : Stop → ℕ → Bool → Trailer
-trailer_by ran_out at met = NotMet
-trailer_by (trailer n) at met = cond met (At at) NotMet
-trailer_by unknown_tag at met = NotMet
+abbrev pub trailer_by : Stop → ℕ → Bool → Option ℕ
+trailer_by ran_out at met = None
+trailer_by (trailer n) at met = cond met (Some at) None
+trailer_by unknown_tag at met = None
 
 -- the walk stops past its whole chunks
 pub record Marked (v : Walk) (m : Marks) (w : Walker) : Type 0 where
@@ -103,7 +102,7 @@ pub record LeftAlong (file : List ℕ) (v : Walk) (calls : List Call) (w : Walke
   pub left : PacketsLeft file w (drop (file_after v 0 calls) (drain (wholes_of v)))
   -- at a record the cursor and the three counts are that record's: by the chunks before it, and as it stands in the index
   pub stands : file_after v 0 calls < length (recorded_of v) → AtChunk (recorded_of v) (file_after v 0 calls) w
-  pub at_record : (e : ChunkIndexEntry) → get_elem? (records start v) (file_after v 0 calls) ≡ some e → w.position ≡ e.position
+  pub at_record : (e : ChunkIndexEntry) → get_elem? (records start v) (file_after v 0 calls) ≡ Some e → w.position ≡ e.position
   -- end, cut and trailer
   pub marked : Marked v (marks_after unmarked (file_says v 0 calls)) w
 

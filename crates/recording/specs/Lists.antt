@@ -1,12 +1,13 @@
 -- Lists of calls over any state that stands for 01's, and the claims about them: demand 3, 02's M-107, and reads and seeks on every file that has an
 -- index, as the callers of functions that keep their state in words or behind a reference have it. Assumes nothing.
 use Rattle.std.specs.Prelude.{◌≡◌, ℕ, ◌<◌, true, List, [], ◌∷◌, length, take}
+use Rattle.error.specs.Refusal.{said}
+use Rattle.std.specs.Option.{Option, None, Some}
 use Rattle.error.specs.Answer.{Answer}
 use Rattle.fields.specs.Le.{Bytes}
 use Rattle.demuxer.specs.Packet.{Shown}
 use Rattle.demuxer.specs.Read.{packet, End}
 use Rattle.demuxer.specs.Read as demuxer
-use Rattle.demuxer.specs.declared.walker.Trailer.TheVariants.{NotMet}
 use Rattle.demuxer.specs.declared.walker.Walker.{Walker}
 use Rattle.muxer.specs.Writer as muxer
 use Rattle.muxer.specs.declared.Settings.{Settings}
@@ -63,7 +64,7 @@ reads_say (p ∷ ps) = read_answer (packet p) ∷ reads_say ps
 abbrev pub DrainsCut : {S : Type 0} → (S → Walker → Type 0) → (S → Call → CallAnswer → S → Type 0) → S → List Chunk → ℕ → Type 0
 DrainsCut {S} Is Step first cs n =
     (said : List CallAnswer) (last : S) → CallsRan Step first (reads_for (survivors n cs)) said last
-    → (said ≡ reads_say (survivors n cs)) × Is last (ended_at cs (length (survivors n cs)) true NotMet)
+    → (said ≡ reads_say (survivors n cs)) × Is last (ended_at cs (length (survivors n cs)) true None)
 
 -- of what the calls answered and left, over any state
 pub record EveryList : Type 1 where

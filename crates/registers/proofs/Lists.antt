@@ -1,10 +1,11 @@
 -- Every list of register steps agrees with the machine of the file that is fed its commands: a command is one of four (`command_cases`), and what a
 -- read or a seek shows of the machine's answer is by the one-step lemma of the claim about reads and seeks (`own_turn`). Assumes nothing.
 use mathlib.Core.Path.{◌≡◌, refl, sym, ap, subst, ◌∙◌}
+use Rattle.error.specs.Refusal.{said}
+use Rattle.std.specs.Option.{Option, None, Some}
 use Prim.Native.Nat.{ℕ, ◌≤◌}
 use mathlib.Core.Bool.{Bool, true, false, cond}
 use mathlib.Core.List.{List, [], ◌∷◌, append-nil}
-use mathlib.Core.Option.{Option, none, some}
 use native.Mathlib.Omega.{arith}
 use lib.Dec.{leb, eqb}
 use lib.IntN.{ℤ}
@@ -38,14 +39,14 @@ use Rattle.registers.proofs.Sentences.{bits_of}
 
 -- ---- a command is refused, or it is one of four
 
-command_cases : (P : Answer (Option Call) → Type 0) → ((r : Refusal) → P (refused r)) → P (accepted none) → P (accepted (some read))
-    → ((z : ℤ) → P (accepted (some (seek 0 z)))) → ((z : ℤ) → P (accepted (some (seek 1 z)))) → (block : List ℕ) → P (command_in block)
+command_cases : (P : Answer (Option Call) → Type 0) → ((r : Refusal) → P (refused r)) → P (accepted None) → P (accepted (Some read))
+    → ((z : ℤ) → P (accepted (Some (seek 0 z)))) → ((z : ℤ) → P (accepted (Some (seek 1 z)))) → (block : List ℕ) → P (command_in block)
 unfolding command_in commanded
 command_cases P refusal idle reads pictures sounds block =
     asked (eqb (length block) 16) (leb (byte block 0) 3) (one (eqb (byte block 0) 1) (eqb (byte block 0) 2) (eqb (byte block 0) 3))
   where
     one : (a b c : Bool)
-        → P (accepted (cond a (some read) (cond b (some (seek 0 (request_in block))) (cond c (some (seek 1 (request_in block))) none))))
+        → P (accepted (cond a (Some read) (cond b (Some (seek 0 (request_in block))) (cond c (Some (seek 1 (request_in block))) None))))
     one true b c = reads
     one false true c = pictures (request_in block)
     one false false true = sounds (request_in block)
@@ -88,7 +89,7 @@ module _ (block : List ℕ) where
         unrefused = ap (λ (a : CallAnswer). refusal_number (done_of a)) e ∙ n;
       }
 
-  agreed : (m : MachineAnswer) (o : CallOutcome) → machine.Agrees m o.answer → Marked m o → Agrees (some m) (shown_by (stepped block (made o)))
+  agreed : (m : MachineAnswer) (o : CallOutcome) → machine.Agrees m o.answer → Marked m o → Agrees (Some m) (shown_by (stepped block (made o)))
   unfolding Marked block_after
   agreed (gives p) o e h = (
     accepts o (read_answer (packet p)) e refl,
@@ -118,22 +119,22 @@ module _ (file : List ℕ) (all : Bytes file) (table : List ℕ) (own : OwnIndex
   read-marked : (w : Walker) (k : ℕ) (m : Marks) → Invariant v w k m → (x : Option Shown) → Turn v m (call file table w read) (on_read k x)
       → Marked (on_read k x).says (call file table w read)
   unfolding Marked call
-  read-marked w k m i (some p) t = packet-stamp file w (own_range file all table own w k m i) (read_same t.agrees)
-  read-marked w k m i none t = (marked t.keeps).end_is
+  read-marked w k m i (Some p) t = packet-stamp file w (own_range file all table own w k m i) (read_same t.agrees)
+  read-marked w k m i None t = (marked t.keeps).end_is
 
   seek-marked : (w : Walker) (m : Marks) (stream : ℕ) (z : ℤ) (k : ℕ) (x : Option Shown) → Turn v m (call file table w (seek stream z)) (on_seek k x)
       → Marked (on_seek k x).says (call file table w (seek stream z))
   unfolding Marked call
-  seek-marked w m stream z k (some p) t = (
+  seek-marked w m stream z k (Some p) t = (
     rw (seek-stamp table w stream z (seek-same t.agrees)) (stamp_in stream _ (own_range file all table own _ k _ t.keeps)),
     (marked t.keeps).end_is,
   )
-  seek-marked w m stream z k none t = tt
+  seek-marked w m stream z k None t = tt
 
   -- the marks after what the machine is fed
   abbrev marks_fed : ℕ → Marks → Option Call → Marks
-  marks_fed k m none = m
-  marks_fed k m (some c) = marked_by m (file_step v k c).says
+  marks_fed k m None = m
+  marks_fed k m (Some c) = marked_by m (file_step v k c).says
 
   -- what a step shows agrees, and the walker that it leaves keeps the invariant
   record Turned (k : ℕ) (m : Marks) (d : Answer (Option Call)) (s : Stepping) : Type 0 where
@@ -143,24 +144,24 @@ module _ (file : List ℕ) (all : Bytes file) (table : List ℕ) (own : OwnIndex
   -- of a call whose machine's step is known
   by_turn : (w : Walker) (k : ℕ) (m : Marks) (block : List ℕ) → Invariant v w k m → (c : Call) (n : MachineStep) → file_step v k c ≡ n
       → (Turn v m (call file table w c) n → Marked n.says (call file table w c))
-      → Turned k m (accepted (some c)) (stepped_from file table w block (accepted (some c)))
+      → Turned k m (accepted (Some c)) (stepped_from file table w block (accepted (Some c)))
   by_turn w k m block i c n e marks =
       let t = own_turn file all table own w k m c i in
       let u : Turn v m (call file table w c) n = subst (Turn v m (call file table w c)) e t in
       record {
         agrees =
-            subst (λ (x : MachineStep). Agrees (some x.says) (shown_by (stepped block (made (call file table w c))))) (sym e)
+            subst (λ (x : MachineStep). Agrees (Some x.says) (shown_by (stepped block (made (call file table w c))))) (sym e)
             (agreed block n.says (call file table w c) u.agrees (marks u));
         keeps = t.keeps;
       }
 
   read-turn : (w : Walker) (k : ℕ) (m : Marks) (block : List ℕ) → Invariant v w k m
-      → Turned k m (accepted (some read)) (stepped_from file table w block (accepted (some read)))
+      → Turned k m (accepted (Some read)) (stepped_from file table w block (accepted (Some read)))
   unfolding file_step machine_step
   read-turn w k m block i = by_turn w k m block i read _ refl (read-marked w k m i (get_elem? (drain (wholes_of v)) k))
 
   seek-turn : (w : Walker) (k : ℕ) (m : Marks) (block : List ℕ) → Invariant v w k m → (stream : ℕ) → leb stream 1 ≡ true → (z : ℤ)
-      → Turned k m (accepted (some (seek stream z))) (stepped_from file table w block (accepted (some (seek stream z))))
+      → Turned k m (accepted (Some (seek stream z))) (stepped_from file table w block (accepted (Some (seek stream z))))
   unfolding file_step machine_step
   seek-turn w k m block i stream h z =
       let to : ℕ = first stream z (drain (recorded_of v)) in
@@ -177,14 +178,14 @@ module _ (file : List ℕ) (all : Bytes file) (table : List ℕ) (own : OwnIndex
 
   place_after : (k : ℕ) (c : Option Call) (calls : List Call) → file_after v k (also c calls) ≡ file_after v (machine_place (file_step v) k c) calls
   unfolding file_after
-  place_after k none calls = refl
-  place_after k (some c) calls = refl
+  place_after k None calls = refl
+  place_after k (Some c) calls = refl
 
   marks-after : (k : ℕ) (m : Marks) (c : Option Call) (calls : List Call)
       → marks_after m (file_says v k (also c calls)) ≡ marks_after (marks_fed k m c) (file_says v (machine_place (file_step v) k c) calls)
   unfolding file_says marks_after
-  marks-after k m none calls = refl
-  marks-after k m (some c) calls = refl
+  marks-after k m None calls = refl
+  marks-after k m (Some c) calls = refl
 
   pub record Run (w : Walker) (k : ℕ) (m : Marks) (blocks : List (List ℕ)) : Type 0 where
     pub agree : AllAgree (file_step v) k blocks (shown file table w blocks)
@@ -221,9 +222,9 @@ same-agree f g e k (block ∷ blocks) (s ∷ said) a = on (fed block) a.0 (same-
   where
     on : (c : Option Call) → Agrees (machine_said f k c) s → AllAgree g (machine_place f k c) blocks said
         → Agrees (machine_said g k c) s × AllAgree g (machine_place g k c) blocks said
-    on none x y = (x, y)
-    on (some c) x y =
-        (subst (λ (n : MachineStep). Agrees (some n.says) s) (e k c) x, subst (λ (n : MachineStep). AllAgree g n.place blocks said) (e k c) y)
+    on None x y = (x, y)
+    on (Some c) x y =
+        (subst (λ (n : MachineStep). Agrees (Some n.says) s) (e k c) x, subst (λ (n : MachineStep). AllAgree g n.place blocks said) (e k c) y)
 
 -- what is said of every file is, of this one, what is said by its chunks
 pub steps-finished : (file : List ℕ) (cs : List Chunk) → Finished file cs → (blocks : List (List ℕ)) (w : Walker) (said : List StepAnswer)

@@ -1,9 +1,10 @@
 -- What the code has done by a command is what the definition says, and the block and the answer made of it are the definition's. Assumes nothing.
 use mathlib.Core.Path.{◌≡◌, refl, sym, ap, ◌∙◌}
+use Rattle.std.specs.Result.{Result, Ok, Err}
+use Rattle.std.specs.Option.{Option, None, Some}
 use Prim.Native.Nat.{ℕ, ◌+◌}
 use mathlib.Core.Bool.{Bool, cond}
 use mathlib.Core.List.{List, ◌++◌}
-use mathlib.Core.Option.{Option}
 use native.Mathlib.Omega.{arith}
 use lib.IntN.{ℤ}
 use lib.ListN.{length, drop, length-drop, drop_of_length-le}
@@ -11,34 +12,26 @@ use mir.Syntax.{w64}
 use mir.Val.{Fits, to_z, of_z}
 use mir.ValLaws.{of_z-to_z}
 use Rattle.error.specs.Answer.{Answer, accepted, refused}
-use Rattle.error.specs.Refusal.{refusal_of}
+use Rattle.error.specs.Refusal.{refusal_of, said}
 use Rattle.error.specs.declared.AmvError.{AmvError}
 use Rattle.fields.specs.Le.{le_bytes, put, put_le}
 use Rattle.demuxer.specs.Packet.{shown_of}
 use Rattle.demuxer.specs.Read.{said_next, said_read, Placed, read_of}
-use Rattle.demuxer.specs.declared.walker.NextPacket.{NextPacket}
-use Rattle.demuxer.specs.declared.walker.NextPacket.TheVariants as next
 use Rattle.demuxer.specs.declared.walker.Read.{Read}
 use Rattle.demuxer.specs.declared.walker.Walker.{Walker}
 use Rattle.recording.specs.Machine.{Call, read_answer, seek_answer, call}
-use Rattle.seek.specs.Seek.{said_seek, said_seek_outcome, seek_of}
+use Rattle.seek.specs.Seek.{said_seek_outcome, seek_of}
 use Rattle.seek.specs.declared.SeekOutcome.{SeekOutcome}
-use Rattle.seek.specs.declared.SeekResult.{SeekResult}
-use Rattle.seek.specs.declared.SeekResult.TheVariants as seek-result
 use Rattle.registers.specs.Registers.{command_in, done_of, perform, status_of, front_after, request_after, block_after, stepped, stepped_from, step_of}
 use Rattle.registers.specs.Registers.{said_step, StepPlaced, MeetsStep}
 use Rattle.registers.specs.Registers as registers
-use Rattle.registers.specs.Steps.{call_of, said_command, said_done, said_performed, DonePlaced, read_done, seek_done, result_of}
+use Rattle.registers.specs.Steps.{call_of, said_done, said_performed, DonePlaced, read_done, seek_done, result_of}
 use Rattle.registers.specs.Steps.{told_of, told_by, bits_of, number_of, stamped_by, block_told}
 use Rattle.registers.specs.declared.Command.{Command}
 use Rattle.registers.specs.declared.Command.TheVariants as command
-use Rattle.registers.specs.declared.CommandResult.{CommandResult}
-use Rattle.registers.specs.declared.CommandResult.TheVariants as command-result
 use Rattle.registers.specs.declared.Done.{Done}
 use Rattle.registers.specs.declared.Done.TheVariants as done
 use Rattle.registers.specs.declared.Performed.{Performed}
-use Rattle.registers.specs.declared.RegisterResult.{RegisterResult}
-use Rattle.registers.specs.declared.RegisterResult.TheVariants.{Err}
 use Rattle.registers.specs.declared.Told.{Told}
 use Rattle.registers.specs.declared.Told.TheVariants as told
 
@@ -53,15 +46,15 @@ module _ (file table : List ℕ) (w : Walker) where
   pub none_performed : {c : Command} → c ≡ command.None → Performs c done.Nothing w
   none_performed e = (ap (λ c. perform file table w (call_of c)) (sym e), tt)
 
-  read_is : (a : NextPacket) → said_done file (read_done a) ≡ done_of (read_answer (said_next file a))
-  read_is (next.Packet p) = refl
-  read_is next.End = refl
-  read_is (next.Err e) = refl
+  read_is : (a : Result (Option Packet) AmvError) → said_done file (read_done a) ≡ done_of (read_answer (said_next file a))
+  read_is (Ok (Some p)) = refl
+  read_is (Ok None) = refl
+  read_is (Err e) = refl
 
-  read-placed : (a : NextPacket) → Placed file w a → DonePlaced file w (read_done a)
-  read-placed (next.Packet p) h = h
-  read-placed next.End h = tt
-  read-placed (next.Err e) h = tt
+  read-placed : (a : Result (Option Packet) AmvError) → Placed file w a → DonePlaced file w (read_done a)
+  read-placed (Ok (Some p)) h = h
+  read-placed (Ok None) h = tt
+  read-placed (Err e) h = tt
 
   pub read_performed_lem : {c : Command} {d : Done} (r : Read) → c ≡ command.Read → said_read file r ≡ read_of file w → Placed file w r.answer
       → d ≡ read_done r.answer → Performs c d r.walker
@@ -73,13 +66,13 @@ module _ (file table : List ℕ) (w : Walker) where
         read-placed r.answer p,
       )
 
-  seek_is : (a : SeekResult) → said_done file (seek_done a) ≡ done_of (seek_answer (said_seek a))
-  seek_is (seek-result.Ok stamp) = refl
-  seek_is (seek-result.Err e) = refl
+  seek_is : (a : Result ℕ AmvError) → said_done file (seek_done a) ≡ done_of (seek_answer (said a))
+  seek_is (Ok stamp) = refl
+  seek_is (Err e) = refl
 
-  seek-placed : (a : SeekResult) → DonePlaced file w (seek_done a)
-  seek-placed (seek-result.Ok stamp) = tt
-  seek-placed (seek-result.Err e) = tt
+  seek-placed : (a : Result ℕ AmvError) → DonePlaced file w (seek_done a)
+  seek-placed (Ok stamp) = tt
+  seek-placed (Err e) = tt
 
   -- the request's bits, read as signed, go to the seek as 64 bits, which give the same number
   pub seek_performed_lem : {c : Command} {d : Done} (stream request : ℕ) {z : ℤ} (r : SeekOutcome) → c ≡ command.Seek stream request → Fits w64 request
@@ -154,11 +147,11 @@ told-said file (done.Gave p) = refl
 told-said file (done.Went stamp) = refl
 told-said file (done.Refused e) = refl
 
-module _ (file table : List ℕ) (w : Walker) (block : List ℕ) {r : CommandResult} (asked : said_command r ≡ command_in block) where
-  pub step-refused : {e : AmvError} → r ≡ command-result.Err e → MeetsStep file table w block (record { result = Err e; walker = w }) block
+module _ (file table : List ℕ) (w : Walker) (block : List ℕ) {r : Result Command AmvError} (asked : said r ≡ command_in block) where
+  pub step-refused : {e : AmvError} → r ≡ Err e → MeetsStep file table w block (record { result = Err e; walker = w }) block
   unfolding step_of
   step-refused {e} t =
-      let q : command_in block ≡ refused (refusal_of e) = sym asked ∙ ap said_command t in
+      let q : command_in block ≡ refused (refusal_of e) = sym asked ∙ ap said t in
       record {
         answer = sym (ap (λ (a : Answer (Option Call)). (stepped_from file table w block a).answer) q);
         walker = sym (ap (λ (a : Answer (Option Call)). (stepped_from file table w block a).walker) q);
@@ -166,10 +159,10 @@ module _ (file table : List ℕ) (w : Walker) (block : List ℕ) {r : CommandRes
         placed = tt;
       }
 
-  pub command-is : {c : Command} → r ≡ command-result.Ok c → command_in block ≡ accepted (call_of c)
-  command-is t = sym asked ∙ ap said_command t
+  pub command-is : {c : Command} → r ≡ Ok c → command_in block ≡ accepted (call_of c)
+  command-is t = sym asked ∙ ap said t
 
-  pub step-made : (p : Performed) {c : Command} {t : Told} {last : List ℕ} {result : RegisterResult} → r ≡ command-result.Ok c
+  pub step-made : (p : Performed) {c : Command} {t : Told} {last : List ℕ} {result : Result (Option Packet) AmvError} → r ≡ Ok c
       → said_performed file p ≡ perform file table w (call_of c) → DonePlaced file w p.done
       → t ≡ told_of p.done → last ≡ block_told block t p.walker.end p.walker.cut → result ≡ result_of p.done
       → MeetsStep file table w block (record { result = result; walker = p.walker }) last

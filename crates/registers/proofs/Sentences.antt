@@ -1,10 +1,10 @@
 -- 02's sentences about the register block hold of its definition. A step that is accepted is what its command performs (`step_by`), so what is said
 -- of a block that a command has written holds of every such step. Assumes nothing.
 use mathlib.Core.Path.{◌≡◌, refl, sym, ap, subst, ◌∙◌}
+use Rattle.std.specs.Option.{Option, None, Some}
 use Prim.Native.Nat.{ℕ, zero, suc, ◌+◌, ◌≤◌, ◌<◌}
 use mathlib.Core.Bool.{Bool, true, false, not, cond, ◌&&◌, ◌||◌}
 use mathlib.Core.List.{List, [], ◌∷◌}
-use mathlib.Core.Option.{Option, none, some}
 use native.Mathlib.Omega.{arith}
 use lib.Bits.{bit_and, bit_or}
 use lib.Dec.{leb, eqb}
@@ -34,8 +34,8 @@ use Rattle.registers.proofs.Blocks.{wrong_length, unknown-command, known-command
 -- ---- the bits of status
 
 unfoldable pub gave_packet : Option Shown → Bool
-gave_packet none = false
-gave_packet (some p) = true
+gave_packet None = false
+gave_packet (Some p) = true
 
 unfoldable pub is_refused : Done → Bool
 is_refused nothing = false
@@ -94,9 +94,9 @@ module _ (file table : List ℕ) (w : Walker) where
 
   done-numbered : (c : Option Call) → DoneNumbered (perform file table w c).done
   unfolding call
-  done-numbered none = unfold DoneNumbered in tt
-  done-numbered (some read) = read_done_lem (read_of file w).answer (read-numbered file w)
-  done-numbered (some (seek stream request)) = seek-done (seek_of table w stream request).answer (seek-numbered table w stream request)
+  done-numbered None = unfold DoneNumbered in tt
+  done-numbered (Some read) = read_done_lem (read_of file w).answer (read-numbered file w)
+  done-numbered (Some (seek stream request)) = seek-done (seek_of table w stream request).answer (seek-numbered table w stream request)
 
 clear-number : (d : Done) → is_refused d ≡ false → refusal_number d ≡ 0
 unfolding is_refused
@@ -179,11 +179,11 @@ module _ (file table : List ℕ) where
       → TellsOf w block left (done_of (read_answer a))
   unfolding commanded call
   read-tells w block a l k e f =
-      tells w block (some read) (known-command block 1 l k (omega arith)) (ap (λ (a : ReadAnswer). packet_of (done_of (read_answer a))) e) f
+      tells w block (Some read) (known-command block 1 l k (omega arith)) (ap (λ (a : ReadAnswer). packet_of (done_of (read_answer a))) e) f
       (ap (λ (a : ReadAnswer). refusal_number (done_of (read_answer a))) e) (ap (λ (a : ReadAnswer). request_after block (done_of (read_answer a))) e)
 
   seek-command : (block : List ℕ) (stream : ℕ) → length block ≡ 16 → stream ≤ 1 → byte block 0 ≡ 2 + stream
-      → command_in block ≡ accepted (some (seek stream (request_in block)))
+      → command_in block ≡ accepted (Some (seek stream (request_in block)))
   unfolding commanded
   seek-command block zero l h k = known-command block 2 l k (omega arith)
   seek-command block (suc zero) l h k = known-command block 3 l k (omega arith)
@@ -194,7 +194,7 @@ module _ (file table : List ℕ) where
       → TellsOf w block left (done_of (seek_answer a))
   unfolding call
   seek-tells w block stream a l h k e f =
-      tells w block (some (seek stream (request_in block))) (seek-command block stream l h k)
+      tells w block (Some (seek stream (request_in block))) (seek-command block stream l h k)
       (ap (λ (a : Answer ℕ). packet_of (done_of (seek_answer a))) e) f
       (ap (λ (a : Answer ℕ). refusal_number (done_of (seek_answer a))) e) (ap (λ (a : Answer ℕ). request_after block (done_of (seek_answer a))) e)
 
@@ -284,15 +284,15 @@ module _ (file table : List ℕ) where
         accepts = λ w block r. (_, ap (λ s. s.answer) (step_by w block (command_of block r)));
         numbers = numbers_of;
         gives_back = given_back;
-        idle = λ w block l k. unfold commanded in tells w block none (known-command block 0 l k (omega arith)) refl refl refl refl;
+        idle = λ w block l k. unfold commanded in tells w block None (known-command block 0 l k (omega arith)) refl refl refl refl;
         read_gave = λ w block p l k e. read-tells w block (packet p) l k e refl;
         read_ended = λ w block l k e. read-tells w block End l k e refl;
         read_refused = λ w block r l k e. read-tells w block (read_answers.refused r) l k e (refused-stays file w e);
         went = λ w block stream stamp l h k e. seek-tells w block stream (accepted stamp) l h k e refl;
         seek_refused = λ w block stream r l h k e.
             seek-tells w block stream (answer.refused r) l h k e (seek_sentences.gives_back table stream (request_in block) w r e);
-        packet_bit = λ w block p h. packet-told w block (some p) h;
-        no_packet_bit = λ w block h. packet-told w block none h;
+        packet_bit = λ w block p h. packet-told w block (Some p) h;
+        no_packet_bit = λ w block h. packet-told w block None h;
         end_bit = λ w block r. rw (step_by w block (command_of block r)) (bits_of (did file table w block)).end_bit;
         cut_bit = λ w block r. rw (step_by w block (command_of block r)) (bits_of (did file table w block)).cut_bit;
         clear = λ w block r.

@@ -1,7 +1,8 @@
 -- Lists of register steps against the plain machine: 02's "for every list of steps from a fresh walker and anything the controller leaves in the
 -- block between them". Assumes nothing.
 use Rattle.std.specs.Prelude.{◌≡◌, ℕ, ◌<◌, true, false, List, [], ◌∷◌, length, drop}
-use Rattle.std.proofs.Math.Option.{Option, none, some}
+use Rattle.error.specs.Refusal.{said}
+use Rattle.std.specs.Option.{Option, None, Some}
 use Rattle.error.specs.Answer.{Answer, accepted, refused}
 use Rattle.fields.specs.Le.{le, Bytes}
 use Rattle.demuxer.specs.Packet.{Shown}
@@ -23,14 +24,14 @@ use Rattle.registers.specs.Sentences.{bit}
 -- the call that a block feeds to the machine: none by the command 0, and none by a step that is refused
 abbrev pub unless_refused : Answer (Option Call) → Option Call
 unless_refused (accepted c) = c
-unless_refused (refused r) = none
+unless_refused (refused r) = None
 
 abbrev pub fed : List ℕ → Option Call
 fed block = unless_refused (command_in block)
 
 abbrev pub also : Option Call → List Call → List Call
-also none calls = calls
-also (some c) calls = c ∷ calls
+also None calls = calls
+also (Some c) calls = c ∷ calls
 
 -- the calls of a list of blocks, each as the controller left it for its step
 unfoldable pub fed_by : List (List ℕ) → List Call
@@ -39,12 +40,12 @@ fed_by (block ∷ blocks) = also (fed block) (fed_by blocks)
 
 -- what a machine of these steps says of what it is fed, and where it then stands
 abbrev pub machine_said : (ℕ → Call → MachineStep) → ℕ → Option Call → Option MachineAnswer
-machine_said step k none = none
-machine_said step k (some c) = some (step k c).says
+machine_said step k None = None
+machine_said step k (Some c) = Some (step k c).says
 
 abbrev pub machine_place : (ℕ → Call → MachineStep) → ℕ → Option Call → ℕ
-machine_place step k none = k
-machine_place step k (some c) = (step k c).place
+machine_place step k None = k
+machine_place step k (Some c) = (step k c).place
 
 -- ---- what a step shows
 
@@ -58,7 +59,7 @@ shown_by s = record { answer = s.answer; block = s.block }
 
 abbrev pub packet_in : Answer (Option Shown) → Option Shown
 packet_in (accepted p) = p
-packet_in (refused r) = none
+packet_in (refused r) = None
 
 -- an accepted step whose read or seek was not refused, with its packet
 pub record Accepts (s : StepAnswer) (p : Option Shown) : Type 0 where
@@ -69,12 +70,12 @@ pub record Accepts (s : StepAnswer) (p : Option Shown) : Type 0 where
 -- bytes 8 to 15, or End is told by bit 1; a seek to a chunk leaves that chunk's stamp there, and bit 1 clear. No seek is refused: a command
 -- names stream 0 or 1.
 abbrev pub Agrees : Option MachineAnswer → StepAnswer → Type 0
-Agrees none s = packet_in s.answer ≡ none
-Agrees (some (gives p)) s = Accepts s (some p) × (le 8 s.block 8 ≡ p.stamp)
-Agrees (some ends) s = Accepts s none × (bit 1 (byte s.block 1) ≡ true)
-Agrees (some (goes stamp)) s = Accepts s none × (le 8 s.block 8 ≡ stamp) × (bit 1 (byte s.block 1) ≡ false)
-Agrees (some goes_to_end) s = Accepts s none
-Agrees (some refuses) s = ⊥
+Agrees None s = packet_in s.answer ≡ None
+Agrees (Some (gives p)) s = Accepts s (Some p) × (le 8 s.block 8 ≡ p.stamp)
+Agrees (Some ends) s = Accepts s None × (bit 1 (byte s.block 1) ≡ true)
+Agrees (Some (goes stamp)) s = Accepts s None × (le 8 s.block 8 ≡ stamp) × (bit 1 (byte s.block 1) ≡ false)
+Agrees (Some goes_to_end) s = Accepts s None
+Agrees (Some refuses) s = ⊥
 
 -- each step of a list, from position k of the machine
 abbrev pub AllAgree : (ℕ → Call → MachineStep) → ℕ → List (List ℕ) → List StepAnswer → Type 0

@@ -1,6 +1,8 @@
 -- The register block of a panel's controller, and one step of it. Document 02, M-106. Assumes nothing.
 use Rattle.std.specs.Prelude.{◌≡◌, ℕ, ◌+◌, ◌-◌, cond, List, [], ◌∷◌, ◌++◌, leb, eqb, ℤ, length, drop, get_or}
-use Rattle.std.proofs.Math.Option.{Option, none, some}
+use Rattle.std.specs.Result.{Result, Ok, Err}
+use Rattle.std.specs.Option.{Option, None, Some}
+use Rattle.error.specs.declared.AmvError.{AmvError}
 use Rattle.std.specs.Int.Bits.{bit_and, bit_or}
 use Rattle.std.specs.Int.{w64}
 use Rattle.std.proofs.Common.{to_z}
@@ -14,8 +16,6 @@ use Rattle.demuxer.specs.Read.{packet, End, PlacedAt}
 use Rattle.demuxer.specs.Read as read_answers
 use Rattle.demuxer.specs.declared.walker.Walker.{Walker}
 use Rattle.recording.specs.Machine.{Call, read, seek, CallAnswer, read_answer, seek_answer, call}
-use Rattle.registers.specs.declared.RegisterResult.{RegisterResult}
-use Rattle.registers.specs.declared.RegisterResult.TheVariants.{Packet, NoPacket, Err}
 use Rattle.registers.specs.declared.RegisterStep.{RegisterStep}
 
 -- byte i of the block
@@ -29,8 +29,8 @@ request_in block = to_z w64 (le 8 block 8)
 -- "Byte 0 is the command: 0 none, 1 read, 2 seek picture, 3 seek sound": the call that it makes, if any
 unfoldable pub commanded : ℕ → ℤ → Option Call
 commanded command request =
-    cond (eqb command 1) (some read)
-    (cond (eqb command 2) (some (seek 0 request)) (cond (eqb command 3) (some (seek 1 request)) none))
+    cond (eqb command 1) (Some read)
+    (cond (eqb command 2) (Some (seek 0 request)) (cond (eqb command 3) (Some (seek 1 request)) None))
 
 -- "block not 16 bytes, 74, first; command above 3, 75, second. These two alone refuse the step"
 unfoldable pub command_in : List ℕ → Answer (Option Call)
@@ -68,8 +68,8 @@ pub record Performed : Type 0 where
 
 -- "then performs the command": by 01's read and seek (`call` is `read_of` or `seek_of`)
 abbrev pub perform : List ℕ → List ℕ → Walker → Option Call → Performed
-perform file table w none = record { done = nothing; walker = w }
-perform file table w (some c) = record { done = done_of (call file table w c).answer; walker = (call file table w c).walker }
+perform file table w None = record { done = nothing; walker = w }
+perform file table w (Some c) = record { done = done_of (call file table w c).answer; walker = (call file table w c).walker }
 
 -- "writes status anew": "Bit 0 is set exactly when this step's read gave a packet, .. bit 3 is set exactly when this step's read or seek was refused"
 abbrev pub done_bits : Done → ℕ
@@ -88,10 +88,10 @@ pending_of block status = bit_or (acknowledged block) (bit_and (byte block 2) (w
 
 -- the packet of this step's read
 abbrev pub packet_of : Done → Option Shown
-packet_of nothing = none
-packet_of (gave p) = some p
-packet_of (went stamp) = none
-packet_of (refused r) = none
+packet_of nothing = None
+packet_of (gave p) = Some p
+packet_of (went stamp) = None
+packet_of (refused r) = None
 
 -- "Byte 5 is this step's refusal number, 0 if none."
 abbrev pub refusal_number : Done → ℕ
@@ -135,15 +135,15 @@ unfoldable pub step_of : List ℕ → List ℕ → Walker → List ℕ → Stepp
 step_of file table w block = stepped_from file table w block (command_in block)
 
 -- what the code returns
-abbrev pub said_step : List ℕ → RegisterResult → Answer (Option Shown)
-said_step file (Packet p) = accepted (some (shown_of file p))
-said_step file NoPacket = accepted none
+abbrev pub said_step : List ℕ → Result (Option Packet) AmvError → Answer (Option Shown)
+said_step file (Ok (Some p)) = accepted (Some (shown_of file p))
+said_step file (Ok None) = accepted None
 said_step file (Err e) = answer.refused (refusal_of e)
 
 -- a packet names its payload as that of a read does
-abbrev pub StepPlaced : List ℕ → Walker → RegisterResult → Type 0
-StepPlaced file w (Packet p) = PlacedAt file w p
-StepPlaced file w NoPacket = Unit
+abbrev pub StepPlaced : List ℕ → Walker → Result (Option Packet) AmvError → Type 0
+StepPlaced file w (Ok (Some p)) = PlacedAt file w p
+StepPlaced file w (Ok None) = Unit
 StepPlaced file w (Err e) = Unit
 
 -- the contract of a step: file, table, walker and block before it, what it returns, and the block after it

@@ -1,6 +1,6 @@
 -- 02's sentences about the register block a second time: by each command and what its read or seek answers, and bit by bit. Assumes nothing.
 use Rattle.std.specs.Prelude.{◌≡◌, ℕ, ◌+◌, ◌/◌, ◌%◌, ◌^◌, ◌≤◌, ◌<◌, Bool, true, false, not, ◌&&◌, ◌||◌, List, [], ◌∷◌, eqb, length, drop}
-use Rattle.std.proofs.Math.Option.{Option, none, some}
+use Rattle.std.specs.Option.{Option, None, Some}
 use Rattle.error.specs.Answer.{accepted, refused, numbered}
 use Rattle.error.specs.Sentences.{GivesBack, RefusedBy}
 use Rattle.error.specs.declared.Refusal.{Refusal}
@@ -45,24 +45,24 @@ pub record RegisterSentences (file table : List ℕ) : Type 0 where
   pub gives_back : GivesBack (λ (s : Changed). (step_of file table s.walker s.block).answer)
       (λ (s : Changed). record { walker = (step_of file table s.walker s.block).walker; block = (step_of file table s.walker s.block).block })
   -- "0 none": nothing is asked of walker, table or file
-  pub idle : (w : Walker) (block : List ℕ) → length block ≡ 16 → byte block 0 ≡ 0 → Tells (step_of file table w block) none w 0 (drop 8 block)
+  pub idle : (w : Walker) (block : List ℕ) → length block ≡ 16 → byte block 0 ≡ 0 → Tells (step_of file table w block) None w 0 (drop 8 block)
   -- "1 read": "a read that gave a packet", one that ended, one that was refused, whose walker stays
   pub read_gave : (w : Walker) (block : List ℕ) (p : Shown) → length block ≡ 16 → byte block 0 ≡ 1 → (read_of file w).answer ≡ packet p
-      → Tells (step_of file table w block) (some p) (read_of file w).walker 0 (le_bytes 8 p.stamp)
+      → Tells (step_of file table w block) (Some p) (read_of file w).walker 0 (le_bytes 8 p.stamp)
   pub read_ended : (w : Walker) (block : List ℕ) → length block ≡ 16 → byte block 0 ≡ 1 → (read_of file w).answer ≡ End
-      → Tells (step_of file table w block) none (read_of file w).walker 0 (drop 8 block)
+      → Tells (step_of file table w block) None (read_of file w).walker 0 (drop 8 block)
   pub read_refused : (w : Walker) (block : List ℕ) (r : Refusal) → length block ≡ 16 → byte block 0 ≡ 1
-      → (read_of file w).answer ≡ read_answers.refused r → Tells (step_of file table w block) none w r.number (drop 8 block)
+      → (read_of file w).answer ≡ read_answers.refused r → Tells (step_of file table w block) None w r.number (drop 8 block)
   -- "2 seek picture, 3 seek sound": streams 0 and 1; "an accepted seek", to a chunk or to the end, and one that was refused
   pub went : (w : Walker) (block : List ℕ) (stream stamp : ℕ) → length block ≡ 16 → stream ≤ 1 → byte block 0 ≡ 2 + stream
       → (seek_of table w stream (request_in block)).answer ≡ accepted stamp
-      → Tells (step_of file table w block) none (seek_of table w stream (request_in block)).walker 0 (le_bytes 8 stamp)
+      → Tells (step_of file table w block) None (seek_of table w stream (request_in block)).walker 0 (le_bytes 8 stamp)
   pub seek_refused : (w : Walker) (block : List ℕ) (stream : ℕ) (r : Refusal) → length block ≡ 16 → stream ≤ 1 → byte block 0 ≡ 2 + stream
-      → (seek_of table w stream (request_in block)).answer ≡ refused r → Tells (step_of file table w block) none w r.number (drop 8 block)
+      → (seek_of table w stream (request_in block)).answer ≡ refused r → Tells (step_of file table w block) None w r.number (drop 8 block)
   -- "Bit 0 is set exactly when this step's read gave a packet"
-  pub packet_bit : (w : Walker) (block : List ℕ) (p : Shown) → (step_of file table w block).answer ≡ accepted (some p)
+  pub packet_bit : (w : Walker) (block : List ℕ) (p : Shown) → (step_of file table w block).answer ≡ accepted (Some p)
       → bit 0 (byte (step_of file table w block).block 1) ≡ true
-  pub no_packet_bit : (w : Walker) (block : List ℕ) → (step_of file table w block).answer ≡ accepted none
+  pub no_packet_bit : (w : Walker) (block : List ℕ) → (step_of file table w block).answer ≡ accepted None
       → bit 0 (byte (step_of file table w block).block 1) ≡ false
   -- "bits 1 and 2 are the walker's marks"
   pub end_bit : (w : Walker) (block : List ℕ) → Ready block

@@ -1,6 +1,8 @@
 -- Steps on the way: what functions below the step promise each other. Nothing here need be believed. Assumes nothing.
 use Rattle.std.specs.Prelude.{ℕ, ◌+◌, Bool, cond, List, ◌++◌, drop}
-use Rattle.std.proofs.Math.Option.{Option, none, some}
+use Rattle.std.specs.Result.{Result, Ok, Err}
+use Rattle.std.specs.Option.{Option, None, Some}
+use Rattle.error.specs.declared.AmvError.{AmvError}
 use Rattle.std.specs.Int.{w64}
 use Rattle.std.proofs.Common.{to_z}
 use Rattle.error.specs.Answer.{Answer, accepted}
@@ -8,35 +10,23 @@ use Rattle.error.specs.Answer as answer
 use Rattle.error.specs.Refusal.{refusal_of}
 use Rattle.demuxer.specs.Packet.{shown_of}
 use Rattle.demuxer.specs.Read.{PlacedAt}
-use Rattle.demuxer.specs.declared.walker.NextPacket.{NextPacket}
-use Rattle.demuxer.specs.declared.walker.NextPacket.TheVariants as next
 use Rattle.demuxer.specs.declared.walker.Walker.{Walker}
 use Rattle.fields.specs.Le.{le_bytes, put_le}
 use Rattle.recording.specs.Machine.{Call, read, seek}
-use Rattle.seek.specs.declared.SeekResult.{SeekResult}
-use Rattle.seek.specs.declared.SeekResult.TheVariants as seek-result
 use Rattle.registers.specs.Registers as registers
 use Rattle.registers.specs.declared.Command.{Command}
 use Rattle.registers.specs.declared.Command.TheVariants as command
-use Rattle.registers.specs.declared.CommandResult.{CommandResult}
-use Rattle.registers.specs.declared.CommandResult.TheVariants as command-result
 use Rattle.registers.specs.declared.Done.{Done}
 use Rattle.registers.specs.declared.Done.TheVariants as done
 use Rattle.registers.specs.declared.Performed.{Performed}
-use Rattle.registers.specs.declared.RegisterResult.{RegisterResult}
-use Rattle.registers.specs.declared.RegisterResult.TheVariants.{Packet, NoPacket}
 use Rattle.registers.specs.declared.Told.{Told}
 use Rattle.registers.specs.declared.Told.TheVariants.{Nothing, Gave, Went, Refused}
 
 -- a command as a call
 abbrev pub call_of : Command → Option Call
-call_of command.None = none
-call_of command.Read = some read
-call_of (command.Seek stream request) = some (seek stream (to_z w64 request))
-
-abbrev pub said_command : CommandResult → Answer (Option Call)
-said_command (command-result.Ok c) = accepted (call_of c)
-said_command (command-result.Err e) = answer.refused (refusal_of e)
+call_of command.None = None
+call_of command.Read = Some read
+call_of (command.Seek stream request) = Some (seek stream (to_z w64 request))
 
 -- what a command has done, in the code's terms
 abbrev pub said_done : List ℕ → Done → registers.Done
@@ -55,14 +45,14 @@ DonePlaced file w (done.Went stamp) = Unit
 DonePlaced file w (done.Refused e) = Unit
 
 -- by what a read or a seek answered
-abbrev pub read_done : NextPacket → Done
-read_done (next.Packet p) = done.Gave p
-read_done next.End = done.Nothing
-read_done (next.Err e) = done.Refused e
+abbrev pub read_done : Result (Option Packet) AmvError → Done
+read_done (Ok (Some p)) = done.Gave p
+read_done (Ok None) = done.Nothing
+read_done (Err e) = done.Refused e
 
-abbrev pub seek_done : SeekResult → Done
-seek_done (seek-result.Ok stamp) = done.Went stamp
-seek_done (seek-result.Err e) = done.Refused e
+abbrev pub seek_done : Result ℕ AmvError → Done
+seek_done (Ok stamp) = done.Went stamp
+seek_done (Err e) = done.Refused e
 
 -- what the block tells of it: of the code's, and of the definition's
 abbrev pub told_of : Done → Told
@@ -108,8 +98,8 @@ block_told block t end cut =
     registers.front_after block (bits_of t + cond end 2 0 + cond cut 4 0) (number_of t) ++ request_told block t
 
 -- what the answer has of it
-abbrev pub result_of : Done → RegisterResult
-result_of done.Nothing = NoPacket
-result_of (done.Gave p) = Packet p
-result_of (done.Went stamp) = NoPacket
-result_of (done.Refused e) = NoPacket
+abbrev pub result_of : Done → Result (Option Packet) AmvError
+result_of done.Nothing = (Ok None)
+result_of (done.Gave p) = Ok (Some p)
+result_of (done.Went stamp) = (Ok None)
+result_of (done.Refused e) = (Ok None)

@@ -5,13 +5,13 @@ ghost use Rattle.std.specs.Prelude.{◌≡◌, ◌+◌, cond, ◌++◌, length, 
 ghost use Rattle.std.specs.Int.{w64};
 ghost use Rattle.std.proofs.Common.{to_z};
 ghost use Rattle.registers.specs.Registers.{command_in, perform, pending_of, front_after, MeetsStep};
-ghost use Rattle.registers.specs.Steps.{call_of, said_command, read_done, seek_done, said_performed, DonePlaced};
+ghost use Rattle.registers.specs.Steps.{call_of, said, read_done, seek_done, said_performed, DonePlaced};
 ghost use Rattle.registers.specs.Steps.{told_of, bits_of, number_of, stamped_by, block_told, result_of};
 
 use demuxer::packet::Packet;
-use demuxer::walker::{NextPacket, Walker};
+use demuxer::walker::Walker;
 use error::AmvError;
-use seek::{SeekResult, seek_to_via_index};
+use seek::seek_to_via_index;
 
 // The layout of the block: where each register stands, and its bits.
 #[derive(Clone, Copy)]
@@ -67,18 +67,10 @@ impl Registers {
     pub const REFUSED: u8 = 8;
 }
 
-// What a step answers: it is accepted, with the packet that its read gave or with none, or refused.
-#[derive(Clone, Copy)]
-pub enum RegisterResult {
-    Packet(Packet),
-    NoPacket,
-    Err(AmvError),
-}
-
 // A step's answer, and the walker that the next step gets.
 #[derive(Clone, Copy)]
 pub struct RegisterStep {
-    pub result: RegisterResult,
+    pub result: Result<Option<Packet>, AmvError>,
     pub walker: Walker,
 }
 
@@ -88,13 +80,6 @@ pub enum Command {
     None,
     Read,
     Seek(u32, u64),
-}
-
-// A command, or a refusal of the step.
-#[derive(Clone, Copy)]
-pub enum CommandResult {
-    Ok(Command),
-    Err(AmvError),
 }
 
 // What a command has done. End is nothing to tell: the walker's mark says it.
@@ -135,47 +120,47 @@ pub fn signed(bits: u64) -> i64
 }
 
 // The command of a block, with its request where it is a seek. Refuses with 74 and 75, which alone refuse a step.
-pub fn command_in(block: &[u8]) -> CommandResult
-    ensures { said_command result ≡ command_in block.now }
+pub fn command_in(block: &[u8]) -> Result<Command, AmvError>
+    ensures { said result ≡ command_in block.now }
 {
     if block.len() != Registers::LEN {
-        return CommandResult::Err(AmvError::WrongRegisterBlock);
+        return Err(AmvError::WrongRegisterBlock);
     }
     let command = block[Registers::COMMAND];
     if Registers::SEEK_SOUND < command {
-        return CommandResult::Err(AmvError::UnknownCommand);
+        return Err(AmvError::UnknownCommand);
     }
     if command == Registers::NONE {
-        return CommandResult::Ok(Command::None);
+        return Ok(Command::None);
     }
     if command == Registers::READ {
-        return CommandResult::Ok(Command::Read);
+        return Ok(Command::Read);
     }
     let request = fields::read_u64_le(block, Registers::REQUEST);
     if command == Registers::SEEK_PICTURE {
-        return CommandResult::Ok(Command::Seek(0, request));
+        return Ok(Command::Seek(0, request));
     }
-    CommandResult::Ok(Command::Seek(1, request))
+    Ok(Command::Seek(1, request))
 }
 
 // What a read has done.
-fn read_done(answer: NextPacket) -> Done
+fn read_done(answer: Result<Option<Packet>, AmvError>) -> Done
     ensures { result ≡ read_done answer }
 {
     match answer {
-        NextPacket::Packet(packet) => Done::Gave(packet),
-        NextPacket::End => Done::Nothing,
-        NextPacket::Err(e) => Done::Refused(e),
+        Ok(Some(packet)) => Done::Gave(packet),
+        Ok(None) => Done::Nothing,
+        Err(e) => Done::Refused(e),
     }
 }
 
 // What a seek has done.
-fn seek_done(res: SeekResult) -> Done
+fn seek_done(res: Result<u64, AmvError>) -> Done
     ensures { result ≡ seek_done res }
 {
     match res {
-        SeekResult::Ok(stamp) => Done::Went(stamp),
-        SeekResult::Err(e) => Done::Refused(e),
+        Ok(stamp) => Done::Went(stamp),
+        Err(e) => Done::Refused(e),
     }
 }
 
@@ -310,14 +295,14 @@ pub fn write_block(block: &mut [u8], told: Told, end: bool, cut: bool)
 }
 
 // What a step answers once its command is performed.
-fn step_result(done: Done) -> RegisterResult
+fn step_result(done: Done) -> Result<Option<Packet>, AmvError>
     ensures { result ≡ result_of done }
 {
     match done {
-        Done::Nothing => RegisterResult::NoPacket,
-        Done::Gave(packet) => RegisterResult::Packet(packet),
-        Done::Went(_) => RegisterResult::NoPacket,
-        Done::Refused(_) => RegisterResult::NoPacket,
+        Done::Nothing => Ok(None),
+        Done::Gave(packet) => Ok(Some(packet)),
+        Done::Went(_) => Ok(None),
+        Done::Refused(_) => Ok(None),
     }
 }
 
@@ -328,11 +313,11 @@ pub fn register_step(walker: Walker, file: &[u8], table: &[u8], block: &mut [u8]
     ensures { MeetsStep file.now table.now walker block.old result block.new }
 {
     match command_in(block) {
-        CommandResult::Err(e) => RegisterStep {
-            result: RegisterResult::Err(e),
+        Err(e) => RegisterStep {
+            result: Err(e),
             walker,
         },
-        CommandResult::Ok(command) => {
+        Ok(command) => {
             let performed = perform(walker, file, table, command);
             let done = performed.done;
             let next = performed.walker;

@@ -1,5 +1,9 @@
 -- What a call's row says, and the six stores that put it. Assumes nothing.
 use mathlib.Core.Path.{◌≡◌, refl, sym, ap, ◌∙◌}
+use Rattle.error.specs.Refusal.{said}
+use Rattle.std.specs.Result.{Result, Ok, Err}
+use Rattle.std.specs.Option.{Option, None, Some}
+use Rattle.error.specs.declared.AmvError.{AmvError}
 use Prim.Native.Nat.{ℕ, ◌+◌, ◌≤◌}
 use mathlib.Core.List.{List, [], ◌∷◌}
 use native.Mathlib.Omega.{arith}
@@ -14,12 +18,8 @@ use Rattle.demuxer.specs.Read.{packet, said_next, said_read, Placed, read_of}
 use Rattle.demuxer.proofs.Bodies.{length-payload}
 use Rattle.demuxer.specs.declared.walker.Walker.{Walker}
 use Rattle.demuxer.specs.declared.walker.Read.{Read}
-use Rattle.demuxer.specs.declared.walker.NextPacket.{NextPacket}
-use Rattle.demuxer.specs.declared.walker.NextPacket.TheVariants as next
 use Rattle.demuxer.specs.declared.packet.Packet.{Packet}
-use Rattle.demuxer.specs.declared.packet.PacketDuration.{PacketDuration}
-use Rattle.demuxer.specs.declared.packet.PacketDuration.TheVariants.{Ticks, None}
-use Rattle.seek.specs.Seek.{said_seek, said_seek_outcome, seek_of}
+use Rattle.seek.specs.Seek.{said_seek_outcome, seek_of}
 use Rattle.seek.specs.declared.SeekOutcome.{SeekOutcome}
 use Rattle.recording.specs.Machine.{read_answer, seek_answer, call}
 use Rattle.replay.specs.Replay.{call_of, row_words, row_answer, packet_row, read_row, sought_row}
@@ -29,24 +29,24 @@ use Rattle.replay.specs.declared.Row.{Row}
 -- ---- the row of an answer, and the answer of a row
 
 -- of a packet that is placed where it was read, the row is the one of what is shown
-next_row_lem : (file : List ℕ) (w : Walker) (a : NextPacket) → Placed file w a → next_row a ≡ read_row w (said_next file a)
+next_row_lem : (file : List ℕ) (w : Walker) (a : Result (Option Packet) AmvError) → Placed file w a → next_row a ≡ read_row w (said_next file a)
 unfolding shown_of
-next_row_lem file w (next.Packet p) h = λ i. packet_row p.stream (h.0 i) (sym (length-payload file p h.1) i) p.stamp (ticks p.duration)
-next_row_lem file w next.End h = refl
-next_row_lem file w (next.Err e) h = refl
+next_row_lem file w (Ok (Some p)) h = λ i. packet_row p.stream (h.0 i) (sym (length-payload file p h.1) i) p.stamp p.duration
+next_row_lem file w (Ok None) h = refl
+next_row_lem file w (Err e) h = refl
 
-packet-said : (file : List ℕ) (p : Packet) (d : PacketDuration)
-    → row_answer file (packet_row p.stream p.start p.len p.stamp (ticks d))
+packet-said : (file : List ℕ) (p : Packet) (d : Option ℕ)
+    → row_answer file (packet_row p.stream p.start p.len p.stamp d)
     ≡ read_answer (packet (shown_of file (record { stream = p.stream; start = p.start; len = p.len; stamp = p.stamp; duration = d })))
 unfolding row_answer
-packet-said file p (Ticks n) = refl
+packet-said file p (Some n) = refl
 packet-said file p None = refl
 
-read-said : (file : List ℕ) (a : NextPacket) → row_answer file (next_row a) ≡ read_answer (said_next file a)
+read-said : (file : List ℕ) (a : Result (Option Packet) AmvError) → row_answer file (next_row a) ≡ read_answer (said_next file a)
 unfolding row_answer
-read-said file (next.Packet p) = packet-said file p p.duration
-read-said file next.End = refl
-read-said file (next.Err e) = refl
+read-said file (Ok (Some p)) = packet-said file p p.duration
+read-said file (Ok None) = refl
+read-said file (Err e) = refl
 
 seek-said : (file : List ℕ) (a : Answer ℕ) → row_answer file (sought_row a) ≡ seek_answer a
 unfolding row_answer
@@ -66,13 +66,13 @@ module _ (file table : List ℕ) (w : Walker) (kind stream : ℕ) (request : ℤ
         walker_is = ap (λ q. q.walker) e;
       })
 
-  pub seek_called : (r : SeekOutcome) → (kind ≡ 0 → ⊥) → said_seek_outcome r ≡ seek_of table w stream request → row ≡ sought_row (said_seek r.result)
+  pub seek_called : (r : SeekOutcome) → (kind ≡ 0 → ⊥) → said_seek_outcome r ≡ seek_of table w stream request → row ≡ sought_row (said r.result)
       → Answered file table w (call_of kind stream request) (record { row = row; walker = r.walker })
   unfolding call
   seek_called r k e is =
       rw (ne_eqb _ _ k) (record {
         row_is = is ∙ ap (λ q. sought_row q.answer) e;
-        said_is = ap (row_answer file) is ∙ seek-said file (said_seek r.result) ∙ ap (λ q. seek_answer q.answer) e;
+        said_is = ap (row_answer file) is ∙ seek-said file (said r.result) ∙ ap (λ q. seek_answer q.answer) e;
         walker_is = ap (λ q. q.walker) e;
       })
 

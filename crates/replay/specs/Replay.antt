@@ -1,14 +1,13 @@
 -- A list of reads and seeks as numbers, its answers as numbers, and the claim about them. Assumes nothing.
 use Rattle.std.specs.Prelude.{◌≡◌, ℕ, ◌+◌, ◌*◌, ◌≤◌, ◌<◌, Bool, true, false, cond, List, [], ◌∷◌, eqb, ℤ, pos, length, get_or}
-use Rattle.std.proofs.Math.Option.{Option, none, some}
+use Rattle.error.specs.Refusal.{said}
+use Rattle.std.specs.Option.{Option, None, Some}
 use Rattle.error.specs.Answer.{Answer, accepted, refused, numbered}
 use Rattle.fields.specs.Le.{put}
 use Rattle.demuxer.specs.Packet.{shown_of}
 use Rattle.demuxer.specs.Read.{ReadAnswer, packet, End, fresh}
 use Rattle.demuxer.specs.Read as read_answers
 use Rattle.demuxer.specs.declared.walker.Walker.{Walker}
-use Rattle.demuxer.specs.declared.packet.PacketDuration.{PacketDuration}
-use Rattle.demuxer.specs.declared.packet.PacketDuration.TheVariants.{Ticks, None}
 use Rattle.recording.specs.Machine.{Call, read, seek, CallAnswer, read_answer, seek_answer, call, answers, after, OwnIndex}
 use Rattle.recording.specs.Indexed.{FileAgreed}
 use Rattle.rows.specs.Rows.{one_length, calls_from, CallStep, rows_of, numbers, rows_in}
@@ -36,8 +35,8 @@ refusal_row said number place = record { said = said; first = number; second = p
 
 -- a packet's: stream, start and length of its payload, stamp and duration, if it has one
 abbrev pub packet_row : ℕ → ℕ → ℕ → ℕ → Option ℕ → Row
-packet_row stream start len stamp (some n) = record { said = 1; first = stream; second = start; third = len; fourth = stamp; fifth = n }
-packet_row stream start len stamp none = record { said = 2; first = stream; second = start; third = len; fourth = stamp; fifth = 0 }
+packet_row stream start len stamp (Some n) = record { said = 1; first = stream; second = start; third = len; fourth = stamp; fifth = n }
+packet_row stream start len stamp None = record { said = 2; first = stream; second = start; third = len; fourth = stamp; fifth = 0 }
 
 -- the row of an answer to a call that a walker got: a packet's payload starts past the 8 bytes at that walker's cursor
 abbrev pub read_row : Walker → ReadAnswer → Row
@@ -58,14 +57,14 @@ abbrev pub step : List ℕ → List ℕ → CallStep Walker Call
 step file table = record { row = λ w c. row_words (row_of w (call file table w c).answer); next = λ w c. (call file table w c).walker }
 
 -- the other way round, the answer that a row says: a packet's payload is the part of the file that the row names
-abbrev pub packet_answer : List ℕ → Row → PacketDuration → CallAnswer
+abbrev pub packet_answer : List ℕ → Row → Option ℕ → CallAnswer
 packet_answer file r d =
     read_answer (packet (shown_of file (record { stream = r.first; start = r.second; len = r.third; stamp = r.fourth; duration = d })))
 
 unfoldable pub row_answer : List ℕ → Row → CallAnswer
 row_answer file r =
     cond (eqb r.said 0) (read_answer End)
-    (cond (eqb r.said 1) (packet_answer file r (Ticks r.fifth))
+    (cond (eqb r.said 1) (packet_answer file r (Some r.fifth))
     (cond (eqb r.said 2) (packet_answer file r None)
     (cond (eqb r.said 3) (read_answer (read_answers.refused (numbered r.first r.second)))
     (cond (eqb r.said 4) (seek_answer (accepted r.first)) (seek_answer (refused (numbered r.first r.second)))))))

@@ -1,9 +1,10 @@
 -- Steps on the way: what functions below the calls promise each other. Nothing here need be believed. Assumes nothing.
 use Rattle.std.specs.Prelude.{◌≡◌, ℕ, List}
+use Rattle.std.specs.Result.{Result, Ok, Err}
+use Rattle.std.specs.Option.{Option, None, Some}
+use Rattle.error.specs.declared.AmvError.{AmvError}
 use Rattle.error.specs.Refusal.{refusal_of}
 use Rattle.demuxer.specs.Packet.{ticks}
-use Rattle.demuxer.specs.declared.walker.NextPacket.{NextPacket}
-use Rattle.demuxer.specs.declared.walker.NextPacket.TheVariants as next
 use Rattle.demuxer.specs.declared.walker.Walker.{Walker}
 use Rattle.recording.specs.Machine.{Call, call}
 use Rattle.replay.specs.Replay.{refusal_row, packet_row, row_of, row_answer}
@@ -11,10 +12,10 @@ use Rattle.replay.specs.declared.CallResult.{CallResult}
 use Rattle.replay.specs.declared.Row.{Row}
 
 -- a read's row in the code's terms, where a packet names its payload itself
-abbrev pub next_row : NextPacket → Row
-next_row (next.Packet p) = packet_row p.stream p.start p.len p.stamp (ticks p.duration)
-next_row next.End = refusal_row 0 0 0
-next_row (next.Err e) = refusal_row 3 (refusal_of e).number (refusal_of e).place
+abbrev pub next_row : Result (Option Packet) AmvError → Row
+next_row (Ok (Some p)) = packet_row p.stream p.start p.len p.stamp p.duration
+next_row (Ok None) = refusal_row 0 0 0
+next_row (Err e) = refusal_row 3 (refusal_of e).number (refusal_of e).place
 
 -- the row is the one of the call's answer, and says it
 pub record Answered (file table : List ℕ) (w : Walker) (c : Call) (r : CallResult) : Type 0 where

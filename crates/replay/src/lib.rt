@@ -4,13 +4,13 @@
 ghost use Rattle.std.specs.Prelude.{◌≡◌, ◌+◌, ◌≤◌, length};
 ghost use Rattle.fields.specs.Le.{put};
 ghost use Rattle.demuxer.specs.Packet.{ticks};
-ghost use Rattle.seek.specs.Seek.{said_seek};
+ghost use Rattle.seek.specs.Seek.{said};
 ghost use Rattle.replay.specs.Replay.{row_words, refusal_row, packet_row, sought_row, call_of, Replayed, Compared};
 ghost use Rattle.replay.specs.Steps.{next_row, Answered};
 
-use demuxer::packet::{Packet, PacketDuration};
-use demuxer::walker::{NextPacket, Walker};
-use seek::{SeekResult, seek_to_via_index};
+use demuxer::packet::Packet;
+use demuxer::walker::Walker;
+use seek::seek_to_via_index;
 
 // An answer as six numbers. A packet's values: stream, start and length of its payload in the file, stamp, and duration or 0. A refusal's:
 // number and place. A seek's: the stamp. Every other value is 0.
@@ -95,7 +95,7 @@ fn refusal_row(said: u64, number: u32, place: u64) -> Row
 }
 
 fn packet_row(packet: Packet) -> Row
-    ensures { result ≡ packet_row packet.stream packet.start packet.len packet.stamp (ticks packet.duration) }
+    ensures { result ≡ packet_row packet.stream packet.start packet.len packet.stamp packet.duration }
 {
     let mut row = Row {
         said: Row::PACKET_NO_DURATION,
@@ -106,28 +106,28 @@ fn packet_row(packet: Packet) -> Row
         fifth: 0,
     };
     let duration = packet.duration;
-    if let PacketDuration::Ticks(ticks) = duration {
+    if let Some(ticks) = duration {
         row.said = Row::PACKET;
         row.fifth = ticks;
     }
     row
 }
 
-fn read_row(answer: NextPacket) -> Row
+fn read_row(answer: Result<Option<Packet>, AmvError>) -> Row
     ensures { result ≡ next_row answer }
 {
     match answer {
-        NextPacket::Packet(packet) => packet_row(packet),
-        NextPacket::End => refusal_row(Row::END, 0, 0),
-        NextPacket::Err(error) => refusal_row(Row::READ_REFUSED, error.number(), error.place()),
+        Ok(Some(packet)) => packet_row(packet),
+        Ok(None) => refusal_row(Row::END, 0, 0),
+        Err(error) => refusal_row(Row::READ_REFUSED, error.number(), error.place()),
     }
 }
 
-fn seek_row(res: SeekResult) -> Row
-    ensures { result ≡ sought_row (said_seek res) }
+fn seek_row(res: Result<u64, AmvError>) -> Row
+    ensures { result ≡ sought_row (said res) }
 {
     match res {
-        SeekResult::Ok(stamp) => Row {
+        Ok(stamp) => Row {
             said: Row::STAMP,
             first: stamp,
             second: 0,
@@ -135,7 +135,7 @@ fn seek_row(res: SeekResult) -> Row
             fourth: 0,
             fifth: 0,
         },
-        SeekResult::Err(error) => refusal_row(Row::SEEK_REFUSED, error.number(), error.place()),
+        Err(error) => refusal_row(Row::SEEK_REFUSED, error.number(), error.place()),
     }
 }
 

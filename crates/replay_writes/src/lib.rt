@@ -8,8 +8,7 @@ ghost use Rattle.muxer.specs.Writer.{MeetsOutcome};
 ghost use Rattle.recording.specs.WriteLists.{write_step};
 ghost use Rattle.replay_writes.specs.Replay.{lists, payload_in, call_of, verdict, Replayed, Kept};
 
-use demuxer::packet::{Packet, PacketDuration, payload};
-use error::AmvResult;
+use demuxer::packet::{Packet, payload};
 use muxer::{Settings, Writer, Wrote};
 
 // The kind of call that writes a header. Every kind but these two writes a trailer.
@@ -41,7 +40,7 @@ fn payload_in(payloads: &[u8], start: u64, len: u64) -> &[u8]
         start: start as usize,
         len: len as usize,
         stamp: 0,
-        duration: PacketDuration::None,
+        duration: None,
     };
     payload(payloads, packet)
 }
@@ -67,7 +66,7 @@ fn run_write(
     writer.write_trailer(buf)
 }
 
-fn put_verdict(verdicts: &mut [u64], at: usize, res: AmvResult)
+fn put_verdict(verdicts: &mut [u64], at: usize, res: Result<(), AmvError>)
     requires { at + 2 ≤ length verdicts.old }
     ensures { verdicts.new ≡ put verdicts.old at (verdict (said res)) }
 {

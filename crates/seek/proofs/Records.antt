@@ -1,8 +1,8 @@
 -- The records of a table, one after another: a turn of the search, and that only the last record counts past the end. Assumes nothing.
 use mathlib.Core.Path.{◌≡◌, refl, sym, ap, ◌∙◌}
+use Rattle.std.specs.Option.{Option, None, Some}
 use mathlib.Core.Bool.{true, false}
 use mathlib.Core.List.{List, [], ◌∷◌}
-use mathlib.Core.Option.{some}
 use Prim.Native.Nat.{ℕ, zero, suc, ◌+◌, ◌-◌, ◌*◌, ◌/◌, ◌≤◌}
 use native.Mathlib.Omega.{arith}
 use lib.IntN.{ℤ, pos, negsuc}
@@ -22,7 +22,7 @@ module _ (table : List ℕ) (at left : ℕ) (h : entry_len ≤ left) {e : ChunkI
   unfolding find
   find_on stream z g = rw (entries_on table at left h, ap (reaches stream z) (sym read) ∙ g)
 
-  pub find_here : (stream : ℕ) (z : ℤ) → reaches stream z e ≡ true → find stream z (entries_from (left / entry_len) table at) ≡ some e.position
+  pub find_here : (stream : ℕ) (z : ℤ) → reaches stream z e ≡ true → find stream z (entries_from (left / entry_len) table at) ≡ Some e.position
   unfolding find
   find_here stream z g = rw (entries_on table at left h, ap (reaches stream z) (sym read) ∙ g, read)
 

@@ -1,9 +1,9 @@
 -- The sentences about the indexed seek hold. A seek is refused, goes to a record or to the end; what the search found goes by induction over
 -- the records. Which question is told goes by the laws of the questions. Assumes nothing.
 use mathlib.Core.Path.{◌≡◌, refl, sym, ap, ◌∙◌, subst}
+use Rattle.std.specs.Option.{Option, None, Some}
 use mathlib.Core.Bool.{Bool, true, false, cond}
 use mathlib.Core.List.{List, [], ◌∷◌, ◌++◌}
-use mathlib.Core.Option.{Option, none, some}
 use Prim.Native.Nat.{ℕ, ◌%◌, ◌≤◌, ◌<◌}
 use borrow.Author.Tests.{eq-eqb, eqb-true, le-leb, lt-leb}
 use lib.Dec.{eqb, leb}
@@ -50,8 +50,8 @@ module _ (stream : ℕ) (request : ℤ) where
     reached : Reaches stream request found
     there : p ≡ found.position
 
-  on_found : (e : ChunkIndexEntry) (es : List ChunkIndexEntry) (p : Position) → (find stream request es ≡ some p → First es p)
-      → (b : Bool) → reaches stream request e ≡ b → cond b (some e.position) (find stream request es) ≡ some p → First (e ∷ es) p
+  on_found : (e : ChunkIndexEntry) (es : List ChunkIndexEntry) (p : Position) → (find stream request es ≡ Some p → First es p)
+      → (b : Bool) → reaches stream request e ≡ b → cond b (Some e.position) (find stream request es) ≡ Some p → First (e ∷ es) p
   on_found e es p later true t f =
       record { before = []; found = e; later = es; is = refl; passed = tt; reached = reach e t; there = cc }
   on_found e es p later false t f =
@@ -66,18 +66,18 @@ module _ (stream : ℕ) (request : ℤ) where
         there = r.there;
       }
 
-  find_some : (es : List ChunkIndexEntry) (p : Position) → find stream request es ≡ some p → First es p
+  find_some : (es : List ChunkIndexEntry) (p : Position) → find stream request es ≡ Some p → First es p
   unfolding find
   find_some [] p f = impossible cc
   find_some (e ∷ es) p f = on_found e es p (find_some es p) _ refl f
 
-  on_none : (e : ChunkIndexEntry) (es : List ChunkIndexEntry) → (find stream request es ≡ none → NoneReaches stream request es)
-      → (b : Bool) → reaches stream request e ≡ b → cond b (some e.position) (find stream request es) ≡ none
+  on_none : (e : ChunkIndexEntry) (es : List ChunkIndexEntry) → (find stream request es ≡ None → NoneReaches stream request es)
+      → (b : Bool) → reaches stream request e ≡ b → cond b (Some e.position) (find stream request es) ≡ None
       → NoneReaches stream request (e ∷ es)
   on_none e es later true t f = impossible cc
   on_none e es later false t f = (no_reach e t, later f)
 
-  find_none : (es : List ChunkIndexEntry) → find stream request es ≡ none → NoneReaches stream request es
+  find_none : (es : List ChunkIndexEntry) → find stream request es ≡ None → NoneReaches stream request es
   unfolding find
   find_none [] f = tt
   find_none (e ∷ es) f = on_none e es (find_none es) _ refl f
@@ -102,11 +102,11 @@ past-entry e =
 
 module _ (table : List ℕ) (w : Walker) (stream : ℕ) (request : ℤ) (P : Seeking → Type 0)
     (turned_away : (r : Refusal) → seek_questions table w stream ≡ refused r → P (record { answer = refused r; walker = w }))
-    (to-record : (p : Position) → find stream request (entries_of table) ≡ some p → P (moved_to w stream p false))
-    (to_end : find stream request (entries_of table) ≡ none → P (moved_to w stream (past_last w.position (entries_of table)) true)) where
+    (to-record : (p : Position) → find stream request (entries_of table) ≡ Some p → P (moved_to w stream p false))
+    (to_end : find stream request (entries_of table) ≡ None → P (moved_to w stream (past_last w.position (entries_of table)) true)) where
   landing : (f : Option Position) → find stream request (entries_of table) ≡ f → P (landed (entries_of table) w stream f)
-  landing none e = to_end e
-  landing (some p) e = to-record p e
+  landing None e = to_end e
+  landing (Some p) e = to-record p e
 
   asking : (q : Answer Unit) → seek_questions table w stream ≡ q
       → P (sought_from q w (landed (entries_of table) w stream (find stream request (entries_of table))))
@@ -164,7 +164,7 @@ module _ (table : List ℕ) (w : Walker) (stream : ℕ) (request : ℤ) where
   empty =
       seek_cases table w stream request (λ (q : Seeking). entries_of table ≡ [] → q.walker.position ≡ w.position)
       (λ r e i. refl)
-      (λ p f i. let z : ◌≡◌ {A = Option Position} none (some p) = sym (ap (find stream request) i) ∙ f in impossible cc)
+      (λ p f i. let z : ◌≡◌ {A = Option Position} None (Some p) = sym (ap (find stream request) i) ∙ f in impossible cc)
       (λ f i. ap (past_last w.position) i)
 
 -- ---- which question is told
@@ -200,8 +200,8 @@ module _ (table : List ℕ) (w : Walker) (stream : ℕ) (request : ℤ) where
         (landed-answers (find stream request (entries_of table)))
       where
         landed-answers : (f : Option Position) → (stamp : ℕ) × ((landed (entries_of table) w stream f).answer ≡ accepted stamp)
-        landed-answers none = (_, refl)
-        landed-answers (some p) = (_, refl)
+        landed-answers None = (_, refl)
+        landed-answers (Some p) = (_, refl)
 
 -- ---- the numbers
 
@@ -217,7 +217,7 @@ pub seek_sentences : SeekSentences
 seek_sentences =
     record {
       found = found;
-      none = not_found;
+      None = not_found;
       last = last;
       empty = empty;
       cut_stays =

@@ -1,6 +1,8 @@
 -- The indexed seek. Assumes nothing.
 use Rattle.std.specs.Prelude.{ℕ, ◌+◌, Bool, true, false, cond, ◌&&◌, List, [], ◌∷◌, leb, eqb, ℤ, pos}
-use Rattle.std.proofs.Math.Option.{Option, none, some}
+use Rattle.std.specs.Result.{Result, Ok, Err}
+use Rattle.std.specs.Option.{Option, None, Some}
+use Rattle.error.specs.declared.AmvError.{AmvError}
 use Rattle.std.specs.Int.Signed.{le_z}
 use Rattle.chunk.specs.Chunk.{video_tag, audio_tag, stream_tag}
 use Rattle.chunk_index.specs.Entry.{entries_of}
@@ -9,10 +11,8 @@ use Rattle.demuxer.specs.Position.{in_range}
 use Rattle.demuxer.specs.declared.position.Position.{Position}
 use Rattle.demuxer.specs.declared.walker.Walker.{Walker}
 use Rattle.error.specs.Answer.{Answer, accepted, refused, ask, and_then}
-use Rattle.error.specs.Refusal.{refusal_of}
+use Rattle.error.specs.Refusal.{refusal_of, said}
 use Rattle.table.specs.Table.{table_questions}
-use Rattle.seek.specs.declared.SeekResult.{SeekResult}
-use Rattle.seek.specs.declared.SeekResult.TheVariants.{Ok, Err}
 use Rattle.seek.specs.declared.SeekOutcome.{SeekOutcome}
 
 -- a stream's stamp at a position: frames for stream 0, samples for stream 1
@@ -29,8 +29,8 @@ abbrev pub reaches : ℕ → ℤ → ChunkIndexEntry → Bool
 reaches stream request e = eqb e.tag (stream_tag stream) && le_z request (pos (stamp_of stream e.position))
 
 unfoldable pub find : ℕ → ℤ → List ChunkIndexEntry → Option Position
-find stream request [] = none
-find stream request (e ∷ es) = cond (reaches stream request e) (some e.position) (find stream request es)
+find stream request [] = None
+find stream request (e ∷ es) = cond (reaches stream request e) (Some e.position) (find stream request es)
 
 -- "the cursor is the last one's offset + 8, frames and blocks step past it, samples stay those before it"
 abbrev pub beyond : ChunkIndexEntry → Position
@@ -60,8 +60,8 @@ moved_to w stream p end =
 
 -- found: "sets cursor and counters, clears end, and its stamp is returned. None: end is set; .. The stream's stamp is returned."
 abbrev pub landed : List ChunkIndexEntry → Walker → ℕ → Option Position → Seeking
-landed es w stream (some p) = moved_to w stream p false
-landed es w stream none = moved_to w stream (past_last w.position es) true
+landed es w stream (Some p) = moved_to w stream p false
+landed es w stream None = moved_to w stream (past_last w.position es) true
 
 abbrev pub sought_from : Answer Unit → Walker → Seeking → Seeking
 sought_from (accepted u) w s = s
@@ -72,10 +72,6 @@ unfoldable pub seek_of : List ℕ → Walker → ℕ → ℤ → Seeking
 seek_of table w stream request =
     sought_from (seek_questions table w stream) w (landed (entries_of table) w stream (find stream request (entries_of table)))
 
-abbrev pub said_seek : SeekResult → Answer ℕ
-said_seek (Ok stamp) = accepted stamp
-said_seek (Err e) = refused (refusal_of e)
-
 -- the two parts of what the code returns
 abbrev pub said_seek_outcome : SeekOutcome → Seeking
-said_seek_outcome r = record { answer = said_seek r.result; walker = r.walker }
+said_seek_outcome r = record { answer = said r.result; walker = r.walker }

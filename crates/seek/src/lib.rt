@@ -13,45 +13,31 @@ ghost use Rattle.seek.specs.Steps.{least, found_of};
 use chunk_index::entry::ChunkIndexEntry;
 use demuxer::position::{BlockCount, FrameStamp, Position};
 use demuxer::walker::Walker;
-use error::{AmvError, AmvResult};
-use table::{TableResult, ask_table};
-
-// What a seek answers: the stamp of the stream where the walker now stands, or a refusal.
-#[derive(Clone, Copy)]
-pub enum SeekResult {
-    Ok(u64),
-    Err(AmvError),
-}
+use error::AmvError;
+use table::ask_table;
 
 // A seek's answer, the stamp, and the walker that the next call gets.
 #[derive(Clone, Copy)]
 pub struct SeekOutcome {
-    pub result: SeekResult,
+    pub result: Result<u64, AmvError>,
     pub walker: Walker,
 }
 
-// The position of a record, if one was found.
-#[derive(Clone, Copy)]
-enum Found {
-    At(Position),
-    Nowhere,
-}
-
 // The questions of a seek. The stream's comes before the table's, so a stream that does not exist is told whatever the table is.
-fn ask_seek(walker: Walker, table: &[u8], stream: u32) -> AmvResult
+fn ask_seek(walker: Walker, table: &[u8], stream: u32) -> Result<(), AmvError>
     ensures { said result ≡ seek_questions table.now walker stream }
 {
     if 1 < stream {
-        return AmvResult::Err(AmvError::NoSuchStream);
+        return Err(AmvError::NoSuchStream);
     }
     match ask_table(table) {
-        TableResult::Err(e) => AmvResult::Err(e),
-        TableResult::Ok(_) => {
+        Err(e) => Err(e),
+        Ok(_) => {
             let position = walker.position;
             if !position.in_range() {
-                return AmvResult::Err(AmvError::StateOutOfRange);
+                return Err(AmvError::StateOutOfRange);
             }
-            AmvResult::Ok
+            Ok(())
         }
     }
 }
@@ -90,7 +76,7 @@ fn reaches_entry(stream: u32, request: u64, e: ChunkIndexEntry) -> bool
 }
 
 // The first record of a stream that reaches a request.
-fn find_entry(table: &[u8], stream: u32, request: u64) -> Found
+fn find_entry(table: &[u8], stream: u32, request: u64) -> Option<Position>
     ensures { found_of result ≡ find stream (pos request) (entries_of table.now) }
 {
     let mut at: usize = 0;
@@ -100,11 +86,11 @@ fn find_entry(table: &[u8], stream: u32, request: u64) -> Found
         let e = ChunkIndexEntry::read(table, at);
         if reaches_entry(stream, request, e) {
             let position = e.position;
-            return Found::At(position);
+            return Some(position);
         }
         at += ChunkIndexEntry::LEN;
     }
-    Found::Nowhere
+    None
 }
 
 // One more where a record's tag is the one that is counted.
@@ -156,18 +142,18 @@ fn moved_to(walker: Walker, stream: u32, position: Position, end: bool) -> SeekO
         trailer,
     };
     SeekOutcome {
-        result: SeekResult::Ok(stamp_of(stream, position)),
+        result: Ok(stamp_of(stream, position)),
         walker: moved,
     }
 }
 
 // Where the search leads.
-fn land(walker: Walker, table: &[u8], stream: u32, found: Found) -> SeekOutcome
+fn land(walker: Walker, table: &[u8], stream: u32, found: Option<Position>) -> SeekOutcome
     ensures { said_seek_outcome result ≡ landed (entries_of table.now) walker stream (found_of found) }
 {
     match found {
-        Found::At(position) => moved_to(walker, stream, position, false),
-        Found::Nowhere => {
+        Some(position) => moved_to(walker, stream, position, false),
+        None => {
             let position = walker.position;
             moved_to(walker, stream, beyond_last(position, table), true)
         }
@@ -181,11 +167,11 @@ pub fn seek_to_via_index(walker: Walker, table: &[u8], stream: u32, request: i64
     ensures { said_seek_outcome result ≡ seek_of table.now walker stream request }
 {
     match ask_seek(walker, table, stream) {
-        AmvResult::Err(e) => SeekOutcome {
-            result: SeekResult::Err(e),
+        Err(e) => SeekOutcome {
+            result: Err(e),
             walker,
         },
-        AmvResult::Ok => {
+        Ok(()) => {
             let found = find_entry(table, stream, least_stamp(request));
             land(walker, table, stream, found)
         }

@@ -1,12 +1,13 @@
 -- 02's sentences about a decoded block, a second time: sample by sample, from the block's own bytes. Assumes nothing.
 use Rattle.std.specs.Prelude.{◌≡◌, ℕ, zero, suc, ◌+◌, ◌*◌, ◌-◌, ◌/◌, ◌%◌, ◌≤◌, ◌<◌, min, cond, List, [], ◌∷◌, eqb, ℤ, pos, nat_abs, ◌+ℤ◌, ◌-ℤ◌, length, drop, get_or}
+use Rattle.std.specs.Result.{Result, Ok, Err}
+use Rattle.error.specs.declared.AmvError.{AmvError}
 use Rattle.std.specs.Int.{w16}
 use Rattle.std.proofs.Common.{to_z, SFits}
 use Rattle.error.specs.Answer.{accepted, refused, numbered}
 use Rattle.error.specs.Sentences.{GivesBack, RefusedBy}
 use Rattle.fields.specs.Le.{le, Bytes}
 use Rattle.sound.specs.Sound.{Decoder, Decodes, decode_nibble, decode_of, index_after, level_after, rise, steps}
-use Rattle.sound.specs.declared.SamplesResult.TheVariants.{Ok}
 
 -- "signed 16-bit starting level, step index byte, one ignored byte, u32 count"
 abbrev pub level_in : List ℕ → ℤ

@@ -1,15 +1,15 @@
 -- A sound block decoded: IMA ADPCM by the IMA's Recommended Practices, in the layout of an AMV block. Document 02, M-101. Levels and samples
 -- are signed numbers. Assumes nothing.
 use Rattle.std.specs.Prelude.{◌≡◌, ℕ, ◌+◌, ◌*◌, ◌-◌, ◌/◌, ◌%◌, cond, List, [], ◌∷◌, ◌++◌, leb, ltb, ℤ, pos, negsuc, nat_abs, ◌+ℤ◌, ◌-ℤ◌, length, take, drop, get_or}
+use Rattle.std.specs.Result.{Result, Ok, Err}
+use Rattle.error.specs.declared.AmvError.{AmvError}
 use Rattle.std.specs.Int.Signed.{lt_z}
 use Rattle.std.specs.Int.{w16}
 use Rattle.std.proofs.Common.{to_z}
 use Rattle.error.specs.Answer.{Answer, accepted, refused, ask, and_then}
-use Rattle.error.specs.Refusal.{refusal_of}
+use Rattle.error.specs.Refusal.{refusal_of, said}
 use Rattle.parse.specs.Preamble.{preamble_of, state_byte}
 use Rattle.parse.specs.declared.preamble.AmvAudioPreamble.{AmvAudioPreamble}
-use Rattle.sound.specs.declared.SamplesResult.{SamplesResult}
-use Rattle.sound.specs.declared.SamplesResult.TheVariants.{Ok, Err}
 
 -- 02: "Recommended Practices, 89 steps"
 unfoldable pub steps : List ℕ
@@ -106,11 +106,7 @@ decoded_from block buffer (refused r) = record { answer = refused r; samples = b
 unfoldable pub decode_of : List ℕ → List ℤ → Decoding
 decode_of block buffer = decoded_from block buffer (block_questions block (length buffer))
 
-abbrev pub said_samples : SamplesResult → Answer ℕ
-said_samples (Ok count) = accepted count
-said_samples (Err e) = refused (refusal_of e)
-
 -- the contract of the call: a block, the buffer before, the result, and the buffer after
-pub record Decodes (block : List ℕ) (before : List ℤ) (result : SamplesResult) (after : List ℤ) : Type 0 where
-  pub answer : said_samples result ≡ (decode_of block before).answer
+pub record Decodes (block : List ℕ) (before : List ℤ) (result : Result ℕ AmvError) (after : List ℤ) : Type 0 where
+  pub answer : said result ≡ (decode_of block before).answer
   pub samples : after ≡ (decode_of block before).samples

@@ -10,16 +10,9 @@ ghost use Rattle.error.specs.Refusal.{said};
 ghost use Rattle.sound.specs.Sound.{Decodes, decode_nibble, decode_nibbles, held_level, moved_by, nibbles, sample_questions, samples_of};
 ghost use Rattle.sound.specs.Steps.{Legal, Level, Rises, RowMoves, decoder_of, held_row, inside, level_of};
 
-use error::{AmvError, AmvResult};
-use parse::preamble::{AMV_AUDIO_PREAMBLE_LEN, AmvAudioPreamble, AmvAudioPreambleResult};
+use error::AmvError;
+use parse::preamble::{AMV_AUDIO_PREAMBLE_LEN, AmvAudioPreamble};
 use rises::RISES;
-
-// What the call answers: how many samples the block has, or a refusal.
-#[derive(Clone, Copy)]
-pub enum SamplesResult {
-    Ok(u32),
-    Err(AmvError),
-}
 
 // What a decoder goes by. The level is kept 98,304 larger than it is: so it is never below 0, even before it is held, and it is within 16 bits
 // where its higher bits are 1. The step index is kept as the place where its rises begin.
@@ -203,36 +196,36 @@ fn put_block(block: &[u8], samples: &mut [i16], preamble: AmvAudioPreamble)
 }
 
 // The questions 71, 72 and 73, of a block's preamble, the block's length and the buffer's.
-fn ask_block(preamble: AmvAudioPreamble, len: usize, room: usize) -> AmvResult
+fn ask_block(preamble: AmvAudioPreamble, len: usize, room: usize) -> Result<(), AmvError>
     requires { 8 ≤ len }
     ensures { said result ≡ sample_questions preamble len room }
 {
     if !preamble.step_index_in_ima_range() {
-        return AmvResult::Err(AmvError::StepIndexTooLarge);
+        return Err(AmvError::StepIndexTooLarge);
     }
     if (len as u64) - AMV_AUDIO_PREAMBLE_LEN < preamble.nibble_body_len() {
-        return AmvResult::Err(AmvError::NibblesMissing);
+        return Err(AmvError::NibblesMissing);
     }
     if room < preamble.decoded_sample_count as usize {
-        return AmvResult::Err(AmvError::SampleBufferTooShort);
+        return Err(AmvError::SampleBufferTooShort);
     }
-    AmvResult::Ok
+    Ok(())
 }
 
 // Decodes a sound block to the front of a buffer, and answers how many samples it has; what the buffer has past them stays. Refused in this
 // order, with the buffer as it was: a block shorter than its preamble with 25, a step index above 88 with 71 at 2, a count that the block has
 // too few nibbles for with 72 at 4, and a buffer that does not hold all samples with 73. A count of 0 is accepted.
-pub fn decode_block(block: &[u8], samples: &mut [i16]) -> SamplesResult
+pub fn decode_block(block: &[u8], samples: &mut [i16]) -> Result<u32, AmvError>
     ensures { Decodes block.now samples.old result samples.new }
 {
     match AmvAudioPreamble::parse(block) {
-        AmvAudioPreambleResult::Err(e) => SamplesResult::Err(e),
-        AmvAudioPreambleResult::Ok(preamble) => {
-            if let AmvResult::Err(e) = ask_block(preamble, block.len(), samples.len()) {
-                return SamplesResult::Err(e);
+        Err(e) => Err(e),
+        Ok(preamble) => {
+            if let Err(e) = ask_block(preamble, block.len(), samples.len()) {
+                return Err(e);
             }
             put_block(block, samples, preamble);
-            SamplesResult::Ok(preamble.decoded_sample_count)
+            Ok(preamble.decoded_sample_count)
         }
     }
 }

@@ -1,6 +1,7 @@
 -- The records of a table, one after another: what a turn of a loop takes off the bytes that are left, what a question of each becomes, and that
 -- records of few enough samples pass a question about them. Assumes nothing.
 use mathlib.Core.Path.{◌≡◌, refl, sym, ap, ◌∙◌}
+use Rattle.std.specs.Result.{Result, Ok, Err}
 use mathlib.Core.Bool.{Bool, true, false, ◌||◌, and-false, and-true}
 use mathlib.Core.List.{List, [], ◌∷◌}
 use Prim.Native.Nat.{ℕ, zero, suc, ◌+◌, ◌-◌, ◌/◌, ◌≤◌, ◌<◌, max}
@@ -11,7 +12,7 @@ use lib.ListN.{length}
 use Rattle.fields.specs.Le.{Bytes}
 use Rattle.fields.proofs.Laws.{le-lt}
 use Rattle.error.specs.Answer.{Answer, accepted, refused, numbered, and_then}
-use Rattle.error.specs.Refusal.{refusal_of}
+use Rattle.error.specs.Refusal.{refusal_of, said}
 use Rattle.error.specs.declared.AmvError.{AmvError}
 use Rattle.error.specs.declared.Refusal.{Refusal}
 use Rattle.error.proofs.Answers.{never, accepted-same, then-passed, ask-passed}
@@ -21,9 +22,7 @@ use Rattle.chunk_index.specs.Entry.{entry_len, entry_at, entries_from, entries_o
 use Rattle.chunk_index.specs.Steps.{Small}
 use Rattle.chunk_index.specs.declared.entry.ChunkIndexEntry.{ChunkIndexEntry}
 use Rattle.table.specs.Table.{ask_each, whole_records, good_entry, good_entries, table_questions}
-use Rattle.table.specs.Steps.{most_samples, pass_over, said_table}
-use Rattle.table.specs.declared.TableResult.{TableResult}
-use Rattle.table.specs.declared.TableResult.TheVariants.{Ok, Err}
+use Rattle.table.specs.Steps.{most_samples, pass_over}
 
 abbrev pub known_tag : ChunkIndexEntry → Bool
 known_tag e = eqb e.tag video_tag || eqb e.tag audio_tag
@@ -116,16 +115,16 @@ asked : Answer ℕ → Answer Unit
 asked (accepted n) = accepted tt
 asked (refused r) = refused r
 
-module _ (table : List ℕ) {r : TableResult} (s : said_table r ≡ and_then (whole_records table) (λ _. pass_over 0 0 (entries_of table))) where
+module _ (table : List ℕ) {r : Result ℕ AmvError} (s : said r ≡ and_then (whole_records table) (λ _. pass_over 0 0 (entries_of table))) where
   pub table_ok : {n : ℕ} → r ≡ Ok n → (table_questions table ≡ accepted tt) × (n ≡ most_samples 0 (entries_of table))
   table_ok e =
-      let whole = then-passed (whole_records table) (λ _. pass_over 0 0 (entries_of table)) (sym s ∙ ap said_table e) in
+      let whole = then-passed (whole_records table) (λ _. pass_over 0 0 (entries_of table)) (sym s ∙ ap said e) in
       let good = then-passed (good_entries (entries_of table)) (λ _. accepted (most_samples 0 (entries_of table))) whole.1 in
       (rw (whole.0, good.0), sym (accepted-same good.1))
 
   pub table_err : {f : AmvError} → r ≡ Err f → table_questions table ≡ refused (refusal_of f)
   unfolding asked
-  table_err {f} e = go (refusal_of f) (whole_records table) (good_entries (entries_of table)) (sym s ∙ ap said_table e)
+  table_err {f} e = go (refusal_of f) (whole_records table) (good_entries (entries_of table)) (sym s ∙ ap said e)
     where
       go : (q : Refusal) (x y : Answer Unit) → and_then x (λ _. and_then y (λ _. accepted (most_samples 0 (entries_of table)))) ≡ refused q
           → and_then x (λ _. y) ≡ refused q

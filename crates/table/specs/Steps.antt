@@ -1,11 +1,11 @@
 -- Steps on the way: what functions below the calls promise each other. Nothing here need be believed. Assumes nothing.
 use Rattle.std.specs.Prelude.{ℕ, max, List, [], ◌∷◌}
+use Rattle.std.specs.Result.{Result, Ok, Err}
+use Rattle.error.specs.declared.AmvError.{AmvError}
 use Rattle.error.specs.Answer.{Answer, accepted, refused, and_then}
 use Rattle.error.specs.Refusal.{refusal_of}
 use Rattle.chunk_index.specs.declared.entry.ChunkIndexEntry.{ChunkIndexEntry}
 use Rattle.table.specs.Table.{ask_each, good_entry}
-use Rattle.table.specs.declared.TableResult.{TableResult}
-use Rattle.table.specs.declared.TableResult.TheVariants.{Ok, Err}
 
 -- the most samples of some records and a number
 unfoldable pub most_samples : ℕ → List ChunkIndexEntry → ℕ
@@ -16,6 +16,3 @@ most_samples most (e ∷ es) = most_samples (max most e.position.samples.0) es
 abbrev pub pass_over : ℕ → ℕ → List ChunkIndexEntry → Answer ℕ
 pass_over place most es = and_then (ask_each good_entry 43 place es) (λ _. accepted (most_samples most es))
 
-abbrev pub said_table : TableResult → Answer ℕ
-said_table (Ok most) = accepted most
-said_table (Err e) = refused (refusal_of e)

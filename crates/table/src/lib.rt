@@ -6,26 +6,19 @@ ghost use Rattle.error.specs.Answer.{and_then};
 ghost use Rattle.error.specs.Refusal.{said};
 ghost use Rattle.chunk_index.specs.Entry.{entries_of};
 ghost use Rattle.table.specs.Table.{good_entry, whole_records};
-ghost use Rattle.table.specs.Steps.{pass_over, said_table};
+ghost use Rattle.table.specs.Steps.{pass_over, said};
 
 use chunk_index::entry::ChunkIndexEntry;
-use error::{AmvError, AmvResult};
-
-// What a pass over a table answers: the most samples that a record of it has, or a refusal.
-#[derive(Clone, Copy)]
-pub enum TableResult {
-    Ok(u64),
-    Err(AmvError),
-}
+use error::AmvError;
 
 // Refuses with 41 a table that is no whole number of records.
-fn whole_records(table: &[u8]) -> AmvResult
+fn whole_records(table: &[u8]) -> Result<(), AmvError>
     ensures { said result ≡ whole_records table.now }
 {
     if table.len() % ChunkIndexEntry::LEN != 0 {
-        return AmvResult::Err(AmvError::TableRagged);
+        return Err(AmvError::TableRagged);
     }
-    AmvResult::Ok
+    Ok(())
 }
 
 // A known tag, and samples below the limit.
@@ -51,8 +44,8 @@ fn larger(a: u64, b: u64) -> u64
 
 // Refuses with 43 the first record of another tag or too many samples, at its start. The one pass answers the most samples too: a caller
 // with a limit below 2^62 then need not pass over the table again.
-fn good_entries(table: &[u8]) -> TableResult
-    ensures { said_table result ≡ pass_over 0 0 (entries_of table.now) }
+fn good_entries(table: &[u8]) -> Result<u64, AmvError>
+    ensures { said result ≡ pass_over 0 0 (entries_of table.now) }
 {
     let mut at: usize = 0;
     let mut left = table.len();
@@ -61,21 +54,21 @@ fn good_entries(table: &[u8]) -> TableResult
         left -= ChunkIndexEntry::LEN;
         let e = ChunkIndexEntry::read(table, at);
         if !good_entry(e) {
-            return TableResult::Err(AmvError::BadRecord(at as u64));
+            return Err(AmvError::BadRecord(at as u64));
         }
         let position = e.position;
         most = larger(most, position.samples.0);
         at += ChunkIndexEntry::LEN;
     }
-    TableResult::Ok(most)
+    Ok(most)
 }
 
 // Refuses a table with 41, then with 43, as whole_records and good_entries do, and answers the most samples of a record.
-pub fn ask_table(table: &[u8]) -> TableResult
-    ensures { said_table result ≡ and_then (whole_records table.now) (λ _. pass_over 0 0 (entries_of table.now)) }
+pub fn ask_table(table: &[u8]) -> Result<u64, AmvError>
+    ensures { said result ≡ and_then (whole_records table.now) (λ _. pass_over 0 0 (entries_of table.now)) }
 {
     match whole_records(table) {
-        AmvResult::Err(e) => TableResult::Err(e),
-        AmvResult::Ok => good_entries(table),
+        Err(e) => Err(e),
+        Ok(()) => good_entries(table),
     }
 }

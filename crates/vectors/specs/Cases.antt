@@ -1,22 +1,21 @@
 -- How a stored case is taken apart. Assumes nothing.
 use Rattle.std.specs.Prelude.{◌≡◌, ℕ, zero, suc, ◌+◌, ◌*◌, ◌%◌, ◌<◌, ◌≤◌, min, cond, List, [], ◌∷◌, ◌++◌, length, take, drop, ℤ, pos, negsuc, ◌==◌, slice_index}
+use Rattle.std.specs.Option.{Option, None, Some}
 use Rattle.fields.specs.Le.{le}
 use Rattle.chunk_index.specs.Index.{build_of}
 use Rattle.page.specs.Page.{print_of}
 use Rattle.muxer.specs.Writer.{header_call, packet_call, trailer_call}
 use Rattle.capi.specs.Calls.{block_after_call, buffer_after_call}
-use Rattle.vectors.specs.declared.case.CaseAt.{CaseAt}
-use Rattle.vectors.specs.declared.case.CaseAt.TheVariants.{Whole, Short}
 
 -- a case: a byte that names its function, the lengths of two byte strings, twelve words, then the two strings
 abbrev pub case_end : List ℕ → ℕ → ℕ
 case_end input at = at + 113 + le 8 input (at + 1) + le 8 input (at + 9)
 
 -- where its parts stand, if the input has all of it
-abbrev pub Parts : List ℕ → ℕ → CaseAt → Type 0
-Parts input at (Whole c) =
+abbrev pub Parts : List ℕ → ℕ → Option Case → Type 0
+Parts input at (Some c) =
     (c.first ≡ at + 113) × (c.second ≡ c.first + le 8 input (at + 1)) × (c.end ≡ case_end input at) × (case_end input at ≤ length input)
-Parts input at Short = length input < case_end input at
+Parts input at None = length input < case_end input at
 
 -- its twelve words: three parameters, and nine words of a state
 abbrev pub head_of : List ℕ → ℕ → List ℕ

@@ -82,35 +82,28 @@ pub struct Case {
     pub end: usize,
 }
 
-// A case of the input, or that the input ends before its end.
-#[derive(Clone, Copy)]
-pub enum CaseAt {
-    Whole(Case),
-    Short,
-}
-
 // The case at an offset, taken apart. Short where the input has less than the head or than the lengths in it say.
-pub fn case_at(input: &[u8], at: usize) -> CaseAt
+pub fn case_at(input: &[u8], at: usize) -> Option<Case>
     ensures { Parts input.now at result }
 {
     if input.len() < HEAD_LEN {
-        return CaseAt::Short;
+        return None;
     }
     if input.len() - HEAD_LEN < at {
-        return CaseAt::Short;
+        return None;
     }
     let first = at + HEAD_LEN;
     let room = (input.len() - first) as u64;
     let first_len = fields::read_u64_le(input, at + 1);
     let second_len = fields::read_u64_le(input, at + 9);
     if room < first_len {
-        return CaseAt::Short;
+        return None;
     }
     if room - first_len < second_len {
-        return CaseAt::Short;
+        return None;
     }
     let second = first + first_len as usize;
-    CaseAt::Whole(Case {
+    Some(Case {
         first,
         second,
         end: second + second_len as usize,

@@ -6,7 +6,7 @@ mod case;
 mod print;
 mod run;
 
-use case::{CaseAt, Functions, case_at, function_of, head_of};
+use case::{Functions, case_at, function_of, head_of};
 use input::read_full;
 use print::{print_count, print_cut};
 use run::run_case;
@@ -52,7 +52,7 @@ fn replay(printer: &mut impl Write, input: &[u8]) -> io::Result<()> {
     let mut counts = [0u64; Functions::COUNT];
     let mut at: usize = 0;
     while at < input.len() {
-        let CaseAt::Whole(case) = case_at(input, at) else {
+        let Some(case) = case_at(input, at) else {
             return print_cut(printer, at as u64);
         };
         let first = case.first;

@@ -9,11 +9,8 @@ ghost use Rattle.capi.specs.Calls.{block_after_call, buffer_after_call};
 ghost use Rattle.vectors.specs.Cases.{request_of, tags_in, walker_in, writer_in, stream_in, file_in, table_in, lent_after};
 
 use crate::case::Functions;
-use crate::print::{
-    print_1, print_2, print_3, print_6, print_7, print_9, print_16, print_bytes, print_call,
-    print_end, print_samples,
-};
-use chunk::{ChunkHeader, ChunkHeaderResult};
+use crate::print::{print_1, print_2, print_3, print_6, print_7, print_9, print_16, print_bytes, print_call, print_end, print_samples};
+use chunk::ChunkHeader;
 use listing::{ROOM, list};
 use std::io;
 use std::io::Write;
@@ -305,13 +302,13 @@ fn run_listing(printer: &mut impl Write, input: &[u8]) -> io::Result<()> {
 }
 
 // A refusal is printed as the C interface gives it: the number, then the place, and 0 for what is not answered.
-fn print_chunk_header(printer: &mut impl Write, res: ChunkHeaderResult) -> io::Result<()> {
+fn print_chunk_header(printer: &mut impl Write, res: Result<ChunkHeader, AmvError>) -> io::Result<()> {
     match res {
-        ChunkHeaderResult::Ok(header) => {
+        Ok(header) => {
             print_call(printer, b"chunk_header", 0)?;
             print_3(printer, [0, header.tag as u64, header.size as u64])
         }
-        ChunkHeaderResult::Err(e) => {
+        Err(e) => {
             print_call(printer, b"chunk_header", e.number())?;
             print_3(printer, [e.place(), 0, 0])
         }

@@ -1,8 +1,8 @@
 -- What a call says, by its answer: accepted with its words, or refused with its number and place; and the words of a packet. Assumes nothing.
 use mathlib.Core.Path.{◌≡◌, sym, ap, subst, ◌∙◌}
+use Rattle.std.specs.Option.{Option, None, Some}
 use Prim.Native.Nat.{ℕ, ◌-◌}
 use mathlib.Core.List.{List, ◌∷◌}
-use mathlib.Core.Option.{some}
 use lib.ListN.{replicate}
 use Rattle.error.specs.Answer.{Answer, accepted, refused, number_of}
 use Rattle.error.specs.Refusal.{refusal_of}
@@ -44,6 +44,6 @@ says_error n e a p q = says-refused n a p q (never_zero e)
 
 -- where a packet's payload stands, and how long it is
 pub packet-placed : (file : List ℕ) (w : Walker) (p : Packet) → PlacedAt file w p
-    → packet_words p.stream p.start p.len p.stamp (ticks p.duration) ≡ shown_words w (some (shown_of file p))
+    → packet_words p.stream p.start p.len p.stamp p.duration ≡ shown_words w (Some (shown_of file p))
 unfolding shown_of
 packet-placed file w p (s, l) = rw (length-payload file p l, s)

@@ -14,25 +14,7 @@ use Rattle.demuxer.specs.Read.{advanced}
 use Rattle.demuxer.specs.declared.position.Position.{Position}
 use Rattle.demuxer.specs.declared.walker.Walker.{Walker}
 use Rattle.muxer.specs.declared.Writer.{Writer}
-use Rattle.words.specs.State.{
-  word,
-  mark_of,
-  mark_word,
-  not_met,
-  trailer_of,
-  trailer_word,
-  ask_state,
-  walker_legal,
-  walker_of,
-  walker_words,
-  position_into,
-  settings_legal,
-  writer_legal,
-  writer_of,
-  writer_words,
-  counts_into,
-  WordsStand,
-}
+use Rattle.words.specs.State.{word, mark_of, mark_word, not_met, trailer_of, trailer_word, ask_state, walker_legal, walker_of, walker_words, position_into, settings_legal, writer_legal, writer_of, writer_words, counts_into, WordsStand}
 
 -- ---- a list by its elements
 

@@ -1,6 +1,6 @@
 -- What a call returns and leaves in `out`. Assumes nothing.
 use Rattle.std.specs.Prelude.{◌≡◌, ℕ, ◌+◌, ◌-◌, List, [], ◌∷◌, length, replicate}
-use Rattle.std.proofs.Math.Option.{Option, none, some}
+use Rattle.std.specs.Option.{Option, None, Some}
 use Rattle.error.specs.Answer.{Answer, accepted, refused, number_of, and_then}
 use Rattle.demuxer.specs.Packet.{Shown}
 use Rattle.demuxer.specs.Read.{ReadAnswer, packet, End}
@@ -38,8 +38,8 @@ unless_refused before (refused r) after = before
 
 -- no duration is 0
 abbrev pub shown_duration : Option ℕ → ℕ
-shown_duration (some n) = n
-shown_duration none = 0
+shown_duration (Some n) = n
+shown_duration None = 0
 
 -- a packet: 1, stream, the payload's offset and length, stamp, duration
 abbrev pub packet_words : ℕ → ℕ → ℕ → ℕ → Option ℕ → List ℕ
@@ -47,13 +47,13 @@ packet_words stream start len stamp duration = 1 ∷ stream ∷ start ∷ len �
 
 -- the packet that a read or a step gave: its words, or zeros for none. The payload starts past the 8 bytes at the cursor.
 abbrev pub shown_words : Walker → Option Shown → List ℕ
-shown_words w (some p) = packet_words p.stream (w.position.cursor + 8) (length p.payload) p.stamp p.duration
-shown_words w none = replicate 6 0
+shown_words w (Some p) = packet_words p.stream (w.position.cursor + 8) (length p.payload) p.stamp p.duration
+shown_words w None = replicate 6 0
 
 -- what a read gives: a packet, or none for End
 abbrev pub read_words : Walker → ReadAnswer → Answer (List ℕ)
-read_words w (packet p) = accepted (shown_words w (some p))
-read_words w End = accepted (shown_words w none)
+read_words w (packet p) = accepted (shown_words w (Some p))
+read_words w End = accepted (shown_words w None)
 read_words w (read.refused r) = refused r
 
 -- the fields of a prelude in offset order, and the first chunk's offset

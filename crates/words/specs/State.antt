@@ -1,16 +1,11 @@
 -- The two states as words. Assumes nothing.
 use Rattle.std.specs.Prelude.{◌≡◌, ℕ, Bool, true, cond, ◌&&◌, List, [], ◌∷◌, leb, eqb, length, get_or}
+use Rattle.std.specs.Option.{Option, None, Some}
 use Rattle.fields.specs.Capped.{u32_max}
 use Rattle.error.specs.Answer.{Answer, accepted, refused, numbered, ask}
 use Rattle.demuxer.specs.declared.position.Position.{Position}
-use Rattle.demuxer.specs.declared.walker.Trailer.{Trailer}
-use Rattle.demuxer.specs.declared.walker.Trailer.TheVariants.{At, NotMet}
 use Rattle.demuxer.specs.declared.walker.Walker.{Walker}
 use Rattle.muxer.specs.declared.Writer.{Writer}
-use Rattle.words.specs.declared.walker.WalkerState.{WalkerState}
-use Rattle.words.specs.declared.walker.WalkerState.TheVariants as walker
-use Rattle.words.specs.declared.writer.WriterState.{WriterState}
-use Rattle.words.specs.declared.writer.WriterState.TheVariants as writer
 
 -- word i
 abbrev pub word : List ℕ → ℕ → ℕ
@@ -27,12 +22,12 @@ mark_word mark = cond mark 1 0
 abbrev pub not_met : ℕ
 not_met = 18446744073709551615
 
-abbrev pub trailer_of : ℕ → Trailer
-trailer_of n = cond (eqb n not_met) NotMet (At n)
+abbrev pub trailer_of : ℕ → Option ℕ
+trailer_of n = cond (eqb n not_met) None (Some n)
 
-abbrev pub trailer_word : Trailer → ℕ
-trailer_word (At n) = n
-trailer_word NotMet = not_met
+abbrev pub trailer_word : Option ℕ → ℕ
+trailer_word (Some n) = n
+trailer_word None = not_met
 
 -- words outside their fields' ranges spell no state: a call refuses them with 1 at 0, before 01's questions
 abbrev pub ask_state : {S : Type 0} → Bool → S → Answer S
@@ -67,9 +62,9 @@ walker_words w =
 abbrev pub position_into : Position → List ℕ → List ℕ
 position_into p ws = p.cursor ∷ p.frames.0 ∷ p.samples.0 ∷ p.blocks.0 ∷ word ws 4 ∷ word ws 5 ∷ word ws 6 ∷ []
 
-abbrev pub said_walker : WalkerState → Answer Walker
-said_walker (walker.Legal w) = accepted w
-said_walker walker.Illegal = refused (numbered 1 0)
+abbrev pub said_walker : Option Walker → Answer Walker
+said_walker (Some w) = accepted w
+said_walker None = refused (numbered 1 0)
 
 -- a writer: width, height, fps, rate, channels, begun, ended, written, frames
 unfoldable pub settings_legal : List ℕ → Bool
@@ -101,9 +96,9 @@ abbrev pub counts_into : ℕ → ℕ → List ℕ → List ℕ
 counts_into written frames ws =
     word ws 0 ∷ word ws 1 ∷ word ws 2 ∷ word ws 3 ∷ word ws 4 ∷ word ws 5 ∷ word ws 6 ∷ written ∷ frames ∷ []
 
-abbrev pub said_writer : WriterState → Answer Writer
-said_writer (writer.Legal w) = accepted w
-said_writer writer.Illegal = refused (numbered 1 0)
+abbrev pub said_writer : Option Writer → Answer Writer
+said_writer (Some w) = accepted w
+said_writer None = refused (numbered 1 0)
 
 -- The words stand for the state. Taken for a state and written back they are the same, so a refusal, which returns the state that it
 -- was given, changes no word. And a state's words spell that state again, where its trailer is not met at the largest word (no call

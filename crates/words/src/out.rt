@@ -4,20 +4,19 @@ ghost use Rattle.demuxer.specs.Packet.{ticks};
 ghost use Rattle.error.specs.Refusal.{said};
 ghost use Rattle.words.specs.Out.{OutSays, checked, shown_duration, prelude_words, packet_words};
 
-use demuxer::packet::{Packet, PacketDuration};
-use error::AmvResult;
+use demuxer::packet::Packet;
 use prelude::prelude::AmvPrelude;
 
 // The answer of a call that only checks: gives its number, and leaves its place in `out`.
-pub fn result_out(res: AmvResult, out: &mut [u64; 1]) -> u32
+pub fn result_out(res: Result<(), AmvError>, out: &mut [u64; 1]) -> u32
     ensures { OutSays 1 (checked (said res)) result out.new }
 {
     match res {
-        AmvResult::Ok => {
+        Ok(()) => {
             *out = [0];
             0
         }
-        AmvResult::Err(e) => {
+        Err(e) => {
             *out = [e.place()];
             e.number()
         }
@@ -25,18 +24,18 @@ pub fn result_out(res: AmvResult, out: &mut [u64; 1]) -> u32
 }
 
 // The word of a packet's duration, 0 for none.
-fn duration_word(duration: PacketDuration) -> u64
-    ensures { result ≡ shown_duration (ticks duration) }
+fn duration_word(duration: Option<u64>) -> u64
+    ensures { result ≡ shown_duration duration }
 {
     match duration {
-        PacketDuration::Ticks(ticks) => ticks,
-        PacketDuration::None => 0,
+        Some(ticks) => ticks,
+        None => 0,
     }
 }
 
 // The words of a packet as `out` has them: a caller in C finds the payload by its offset and length in the file.
 pub fn packet_out(packet: Packet) -> [u64; 7]
-    ensures { result ≡ (0 ∷ packet_words packet.stream packet.start packet.len packet.stamp (ticks packet.duration)) }
+    ensures { result ≡ (0 ∷ packet_words packet.stream packet.start packet.len packet.stamp packet.duration) }
 {
     let duration = packet.duration;
     [

@@ -3,35 +3,28 @@ ghost use Rattle.std.specs.Prelude.{◌≡◌};
 ghost use Rattle.words.specs.State.{trailer_of, trailer_word, mark_word, walker_of, said_walker, walker_words, position_into};
 
 use demuxer::position::{BlockCount, FrameStamp, Position, SampleStamp};
-use demuxer::walker::{Trailer, Walker};
+use demuxer::walker::Walker;
 
 // The trailer's word where none was met.
 pub const NOT_MET: u64 = 18446744073709551615;
 
-// The walker of seven words, if each is in its field's range.
-#[derive(Clone, Copy)]
-pub enum WalkerState {
-    Legal(Walker),
-    Illegal,
-}
-
 // The trailer of its word.
-fn trailer_of(word: u64) -> Trailer
+fn trailer_of(word: u64) -> Option<u64>
     ensures { result ≡ trailer_of word }
 {
     if word == NOT_MET {
-        return Trailer::NotMet;
+        return None;
     }
-    Trailer::At(word)
+    Some(word)
 }
 
 // The word of a trailer.
-fn trailer_word(trailer: Trailer) -> u64
+fn trailer_word(trailer: Option<u64>) -> u64
     ensures { result ≡ trailer_word trailer }
 {
     match trailer {
-        Trailer::At(offset) => offset,
-        Trailer::NotMet => NOT_MET,
+        Some(offset) => offset,
+        None => NOT_MET,
     }
 }
 
@@ -43,14 +36,14 @@ pub fn mark_word(mark: bool) -> u64
 }
 
 // The walker that seven words spell. Illegal where a mark is neither 0 nor 1, so that words no call left are refused and not guessed at.
-pub fn walker_of(words: [u64; 7]) -> WalkerState
+pub fn walker_of(words: [u64; 7]) -> Option<Walker>
     ensures { said_walker result ≡ walker_of words }
 {
     if 1 < words[4] {
-        return WalkerState::Illegal;
+        return None;
     }
     if 1 < words[5] {
-        return WalkerState::Illegal;
+        return None;
     }
     let position = Position {
         cursor: words[0],
@@ -64,7 +57,7 @@ pub fn walker_of(words: [u64; 7]) -> WalkerState
         cut: words[5] == 1,
         trailer: trailer_of(words[6]),
     };
-    WalkerState::Legal(walker)
+    Some(walker)
 }
 
 // The seven words of a walker, as a call leaves them for the next one.

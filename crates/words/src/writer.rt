@@ -8,37 +8,30 @@ use muxer::{Settings, Writer};
 // The largest number that a 32-bit setting holds.
 const LARGEST: u64 = fields::U32_MAX as u64;
 
-// The writer of nine words, if each is in its field's range.
-#[derive(Clone, Copy)]
-pub enum WriterState {
-    Legal(Writer),
-    Illegal,
-}
-
 // The writer that nine words spell. Illegal where a word is over its field's range, so that no cast loses bits.
-pub fn writer_of(words: [u64; 9]) -> WriterState
+pub fn writer_of(words: [u64; 9]) -> Option<Writer>
     ensures { said_writer result ≡ writer_of words }
 {
     if LARGEST < words[0] {
-        return WriterState::Illegal;
+        return None;
     }
     if LARGEST < words[1] {
-        return WriterState::Illegal;
+        return None;
     }
     if LARGEST < words[2] {
-        return WriterState::Illegal;
+        return None;
     }
     if LARGEST < words[3] {
-        return WriterState::Illegal;
+        return None;
     }
     if 65535 < words[4] {
-        return WriterState::Illegal;
+        return None;
     }
     if 1 < words[5] {
-        return WriterState::Illegal;
+        return None;
     }
     if 1 < words[6] {
-        return WriterState::Illegal;
+        return None;
     }
     let settings = Settings {
         width: words[0] as u32,
@@ -54,7 +47,7 @@ pub fn writer_of(words: [u64; 9]) -> WriterState
         written: words[7],
         frames: words[8],
     };
-    WriterState::Legal(writer)
+    Some(writer)
 }
 
 // The nine words of a writer, as a call leaves them for the next one.

@@ -2,7 +2,7 @@
 -- the refusal that `says-accepted` and `says_error` close.
 -- Assumes nothing.
 use mathlib.Core.Path.{refl}
-use Rattle.sound.specs.Sound.{said_samples}
+use Rattle.error.specs.Refusal.{said}
 use Rattle.words.proofs.Laws.{says-accepted, says_error}
 use Rattle.capi.specs.Calls.{single}
 use Rattle.capi.proofs.Laws.{gave}
@@ -11,11 +11,11 @@ use Rattle.capi.proofs.amv_decode_block.Goals as goal
 pub returns-in-Ok : goal.returns-in-Ok
 returns-in-Ok c =
     let b = c.decode_block.ensures in
-    record { out_says = says-accepted 2 (gave said_samples single b.answer c.in-Ok.is) refl; samples_after = b.samples }
+    record { out_says = says-accepted 2 (gave said single b.answer c.in-Ok.is) refl; samples_after = b.samples }
 
 pub returns-in-Err : goal.returns-in-Err
 returns-in-Err c = let b = c.decode_block.ensures in record {
-  out_says = says_error 2 c.in-Err.e (gave said_samples single b.answer c.in-Err.is)
+  out_says = says_error 2 c.in-Err.e (gave said single b.answer c.in-Err.is)
       c.number.ensures c.place.ensures;
   samples_after = b.samples;
 }

@@ -2,7 +2,7 @@
 -- the request (`as_requested`), and `walks` takes the words of the walker sought and of the stamp or the refusal.
 -- Assumes nothing.
 use mathlib.Core.Path.{refl, ap, ◌∙◌}
-use Rattle.seek.specs.Seek.{said_seek}
+use Rattle.error.specs.Refusal.{said}
 use Rattle.words.specs.State.{said_walker, walker_words}
 use Rattle.words.proofs.Laws.{says-accepted, says_error}
 use Rattle.capi.specs.Calls.{single, seek_answer, seek_walker}
@@ -20,7 +20,7 @@ returns-in-Ok c =
     let e = as_requested a.table.now c.in-Legal.state a.stream a.request c.ranges.request r.ensures in
     walks 2 (seek_answer a.table.now a.stream a.request) (seek_walker a.table.now a.stream a.request) _
     (known said_walker c.walker_of.ensures c.in-Legal.is)
-    (says-accepted 2 (gave said_seek single (ap (λ q. q.answer) e) c.in-Ok.is) refl)
+    (says-accepted 2 (gave said single (ap (λ q. q.answer) e) c.in-Ok.is) refl)
     (c.walker_words.ensures ∙ ap (λ q. walker_words q.walker) e)
 
 pub returns-in-Err : goal.returns-in-Err
@@ -31,6 +31,6 @@ returns-in-Err c =
     walks 2 (seek_answer a.table.now a.stream a.request) (seek_walker a.table.now a.stream a.request) _
     (known said_walker c.walker_of.ensures c.in-Legal.is)
     (says_error 2 c.in-Err.e
-    (gave said_seek single (ap (λ q. q.answer) e) c.in-Err.is) c.number.ensures
+    (gave said single (ap (λ q. q.answer) e) c.in-Err.is) c.number.ensures
     c.place.ensures)
     (c.walker_words.ensures ∙ ap (λ q. walker_words q.walker) e)

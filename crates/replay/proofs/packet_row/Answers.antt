@@ -7,8 +7,8 @@ use Rattle.replay.proofs.packet_row.Goals as goal
 
 pub returns-in-Ticks : goal.returns-in-Ticks
 returns-in-Ticks c = let p = c.args.packet in
-    sym (ap (λ d. packet_row p.stream p.start p.len p.stamp (ticks d)) c.in-Ticks.is)
+    sym (ap (λ d. packet_row p.stream p.start p.len p.stamp d) c.in-Ticks.is)
 
 pub returns-in_default : goal.returns-in_default
 returns-in_default c = let p = c.args.packet in
-    sym (ap (λ d. packet_row p.stream p.start p.len p.stamp (ticks d)) c.in_default.is)
+    sym (ap (λ d. packet_row p.stream p.start p.len p.stamp d) c.in_default.is)

@@ -2,18 +2,20 @@
 -- `decode_of` (`no-preamble`, `turned_away`, `let_pass`).
 -- Assumes nothing.
 use mathlib.Core.Path.{◌≡◌, sym, ap, ◌∙◌}
+use Rattle.error.specs.Refusal.{said}
+use Rattle.std.specs.Result.{Result, Ok, Err}
+use Rattle.error.specs.declared.AmvError.{AmvError}
 use Prim.Native.Nat.{ℕ}
 use mathlib.Core.List.{List}
 use lib.IntN.{ℤ}
 use Rattle.error.specs.Answer.{accepted}
-use Rattle.sound.specs.Sound.{Decodes, Decoding, decode_of, said_samples}
-use Rattle.sound.specs.declared.SamplesResult.{SamplesResult}
+use Rattle.sound.specs.Sound.{Decodes, Decoding, decode_of}
 use Rattle.sound.proofs.Blocks.{has_preamble, no-preamble, turned_away, let_pass}
 use Rattle.sound.proofs.decode_block.Goals as goal
 
 -- a result and a buffer that are those of the definition
-decodes : (block : List ℕ) (before : List ℤ) (r : SamplesResult) (after : List ℤ)
-    → decode_of block before ≡ record { answer = said_samples r; samples = after } → Decodes block before r after
+decodes : (block : List ℕ) (before : List ℤ) (r : Result ℕ AmvError) (after : List ℤ)
+    → decode_of block before ≡ record { answer = said r; samples = after } → Decodes block before r after
 decodes block before r after e = record { answer = sym (ap {A = Decoding} (λ d. d.answer) e); samples = sym (ap {A = Decoding} (λ d. d.samples) e) }
 
 -- the preamble that was read is the one of the block: `c.in-Ok.ensures`, and `c.in-Err.ensures` that there is none

@@ -2,10 +2,11 @@
 -- take; what is then written, or refused, is what the definition builds from them.
 -- Assumes nothing.
 use mathlib.Core.Path.{sym, ap, ◌∙◌}
+use Rattle.error.specs.Refusal.{said}
 use native.Mathlib.Omega.{arith}
 use borrow.Author.Tests.{leb-true}
 use Rattle.error.specs.Answer.{accepted}
-use Rattle.chunk_index.specs.Index.{Built, said_index}
+use Rattle.chunk_index.specs.Index.{Built}
 use Rattle.chunk_index.proofs.Building.{build_limit, build_refused, counted_all, build_short, build_room}
 use Rattle.chunk_index.proofs.index.build_chunk_index.Goals as goal
 
@@ -35,7 +36,7 @@ write_records-requires c =
 pub returns-in-Err : goal.returns-in-Err
 returns-in-Err c =
     let a = c.args in
-    let none = sym c.count_records.ensures ∙ ap said_index c.in-Err.is in
+    let none = sym c.count_records.ensures ∙ ap said c.in-Err.is in
     let b = build_refused a.file.now a.table.now (sym c.within_limit.ensures ∙ c.if-not-within_limit.false) none in
     record { result_value = sym (ap (λ (x : Built). x.answer) b); table_after = sym (ap (λ (x : Built). x.table) b) }
 

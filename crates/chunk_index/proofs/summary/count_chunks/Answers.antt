@@ -2,13 +2,14 @@
 -- and the tags from here on are what is left of the question. The measure is the bytes from here on, of which each chunk takes 8.
 -- Assumes nothing.
 use mathlib.Core.Path.{◌≡◌, refl, sym, ◌∙◌}
+use Rattle.std.specs.Result.{Result, Ok, Err}
+use Rattle.error.specs.declared.AmvError.{AmvError}
 use mathlib.Core.List.{List}
 use Prim.Native.Nat.{ℕ, ◌<◌}
 use Rattle.chunk_index.specs.declared.summary.ChunkCounts.{ChunkCounts}
 use Rattle.chunk_index.proofs.Summing.{Summing}
 use native.Mathlib.Omega.{arith}
 use Rattle.error.specs.Refusal.{said}
-use Rattle.error.specs.declared.AmvResult.{AmvResult}
 use Rattle.walk.specs.Walk.{Stop, stop, walk}
 use Rattle.walk.specs.declared.Step.TheVariants as step
 use Rattle.walk.proofs.Walks.{step_means}
@@ -21,7 +22,7 @@ use Rattle.chunk_index.proofs.summary.count_chunks.Goals as goal
 
 -- what is answered where the walk stops
 ends : {file : List ℕ} {at : ℕ} {counts : ChunkCounts} → Summing file at counts → {s : Stop} → walk file at ≡ stop s
-    → (known : AmvResult) → said known ≡ stop_known at s → IsCount file (record { counts = counts; known = known })
+    → (known : Result Unit AmvError) → said known ≡ stop_known at s → IsCount file (record { counts = counts; known = known })
 ends l w known k = record { counts_are = sym (summed_stop l w); known_is = k ∙ headers_known l.headers w }
 
 pub loop-chunk-init : goal.loop-chunk-init

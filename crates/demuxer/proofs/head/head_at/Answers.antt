@@ -1,7 +1,7 @@
 -- `demuxer::head::head_at` meets its contract. What stands there is what the header that `parse_at` answers is taken for, by `head_read`.
 -- Assumes nothing.
 use mathlib.Core.Path.{sym, ap, ◌∙◌}
-use Rattle.chunk.specs.Chunk.{said_chunk_header}
+use Rattle.error.specs.Refusal.{said}
 use Rattle.demuxer.proofs.Heads.{head_read}
 use Rattle.demuxer.proofs.head.head_at.Goals as goal
 
@@ -10,9 +10,9 @@ returns-in-Ok c =
     let a = c.args in
     c.from_header.ensures
     ∙ head_read a.file.now a.at
-    (sym (ap said_chunk_header c.in-Ok.is) ∙ c.parse_at.ensures)
+    (sym (ap said c.in-Ok.is) ∙ c.parse_at.ensures)
 
 pub returns-in-Err : goal.returns-in-Err
 returns-in-Err c =
     let a = c.args in
-    head_read a.file.now a.at (sym (ap said_chunk_header c.in-Err.is) ∙ c.parse_at.ensures)
+    head_read a.file.now a.at (sym (ap said c.in-Err.is) ∙ c.parse_at.ensures)

@@ -2,10 +2,10 @@
 -- file's end there is none.
 -- Assumes nothing.
 use Prim.Native.Nat.{◌+◌, ◌-◌, min}
+use Rattle.error.specs.Refusal.{said}
 use mathlib.Core.Path.{◌≡◌, sym, ap, ◌∙◌}
 use native.Mathlib.Omega.{arith}
 use lib.ListN.{length}
-use Rattle.parse.specs.Preamble.{said_preamble}
 use Rattle.demuxer.proofs.Bodies.{count_past, count-read}
 use Rattle.demuxer.proofs.head.sample_count.Goals as goal
 
@@ -18,7 +18,7 @@ returns-in-Ok c =
     let m = c.min-there in
     let e : a.start + m.result - a.start ≡ min (length a.file.now - a.start) a.size = omega (arith, m.ensures) in
     count-read a.file.now a.start a.size e
-    (sym (ap said_preamble c.in-Ok.is) ∙ c.parse.ensures)
+    (sym (ap said c.in-Ok.is) ∙ c.parse.ensures)
 
 pub returns-in-Err : goal.returns-in-Err
 returns-in-Err c =
@@ -26,4 +26,4 @@ returns-in-Err c =
     let m = c.min-there in
     let e : a.start + m.result - a.start ≡ min (length a.file.now - a.start) a.size = omega (arith, m.ensures) in
     count-read a.file.now a.start a.size e
-    (sym (ap said_preamble c.in-Err.is) ∙ c.parse.ensures)
+    (sym (ap said c.in-Err.is) ∙ c.parse.ensures)

@@ -1,8 +1,8 @@
 -- `demuxer::walker::Walker::new` meets its contract. The position is what `Position::new` gives, and the marks are constants.
 -- Assumes nothing.
 use mathlib.Core.Bool.{false}
-use Rattle.demuxer.specs.declared.walker.Trailer.TheVariants.{NotMet}
+use Rattle.std.specs.Option.{Option, None, Some}
 use Rattle.demuxer.proofs.walker.Walker.new.Goals as goal
 
 pub returns : goal.returns
-returns c = λ i. record { position = c.new.ensures i; end = false; cut = false; trailer = NotMet }
+returns c = λ i. record { position = c.new.ensures i; end = false; cut = false; trailer = None }
