@@ -1,7 +1,7 @@
 -- What a call's number and words say is what the call by value answers: a read names its payload by where it stands and how long it is, and
 -- no refusal has the number 0. Assumes nothing.
 use mathlib.Core.Path.{◌≡◌, refl, sym, ap, subst, ◌∙◌}
-use Rattle.std.specs.Option.{Option, None, Some}
+use Rattle.std.proofs.Common.{Option, Some, None}
 use Prim.Native.Nat.{ℕ, ◌+◌, ◌≤◌}
 use mathlib.Core.Bool.{Bool, true, false, cond}
 use mathlib.Core.List.{List}

@@ -2,7 +2,7 @@
 -- Assumes nothing.
 use Rattle.std.specs.Prelude.{◌≡◌, ℕ, ◌<◌, cond, List, [], ◌∷◌, eqb, ℤ, length, take}
 use Rattle.error.specs.Refusal.{said}
-use Rattle.std.specs.Option.{Option, None, Some}
+use Rattle.std.specs.Prelude.{Option, Some, None}
 use Rattle.error.specs.Answer.{Answer, accepted, numbered, ask}
 use Rattle.fields.specs.Le.{Bytes}
 use Rattle.demuxer.specs.Packet.{Shown, packet_duration, shown_of}

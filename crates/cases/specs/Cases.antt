@@ -1,6 +1,6 @@
 -- Document 01's ten cases, "proved as one group", and what 02 says of them. Assumes nothing.
 use Rattle.std.specs.Prelude.{◌≡◌, true, false, List, [], ◌∷◌, ◌++◌, ℕ, pos, negsuc, length, take}
-use Rattle.std.specs.Option.{Option, None, Some}
+use Rattle.std.specs.Prelude.{Option, Some, None}
 use Rattle.error.specs.Answer.{accepted, refused, numbered}
 use Rattle.duration.specs.Duration.{packed_of, run_length}
 use Rattle.duration.specs.OnlyAboveCap.{run_length_before}

@@ -1,7 +1,7 @@
 -- Document 02's supply drop, M-107, on document 01's small file: E cut to every length from 0 to 353, and what each call then says of it; and E while
 -- it is written. recording/Cut claims it of every finished recording; here each number is written down, from the layout of E. Assumes nothing.
 use Rattle.std.specs.Prelude.{◌≡◌, true, false, List, [], ◌∷◌, ◌++◌, map, ℕ, zero, suc, ◌-◌, take, replicate}
-use Rattle.std.specs.Option.{Option, None, Some}
+use Rattle.std.specs.Prelude.{Option, Some, None}
 use Rattle.error.specs.Answer.{Answer, accepted}
 use Rattle.prelude.specs.Prelude.{parse_of}
 use Rattle.prelude.specs.declared.prelude.AmvPrelude.{AmvPrelude}

@@ -1,7 +1,7 @@
 -- Reads and jumps on a recording that is cut, call by call: what each answers, the walker that it leaves, and what the machine of the file says of it,
 -- written down from the layout of a small recording. recording/Indexed and recording/CutJumps claim it of every file and every list. Assumes nothing.
 use Rattle.std.specs.Prelude.{◌≡◌, Bool, true, false, List, [], ◌∷◌, ◌++◌, map, ℕ, pos, negsuc, length, take}
-use Rattle.std.specs.Option.{Option, None, Some}
+use Rattle.std.specs.Prelude.{Option, Some, None}
 use Rattle.error.specs.Answer.{accepted}
 use Rattle.chunk.specs.Chunk.{video_tag, audio_tag, trailer_bytes}
 use Rattle.prelude.specs.Built.{prelude_bytes}

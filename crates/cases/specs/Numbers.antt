@@ -1,6 +1,6 @@
 -- A case for every number of document 01, from its text, with the smallest input; and a recording that tells the totals apart. Assumes nothing.
 use Rattle.std.specs.Prelude.{◌≡◌, Bool, true, false, List, [], ◌∷◌, ◌++◌, ℕ, ◌+◌, ◌-◌, ◌^◌, pos, length, take, replicate}
-use Rattle.std.specs.Option.{Option, None, Some}
+use Rattle.std.specs.Prelude.{Option, Some, None}
 use Rattle.error.specs.Answer.{Answer, accepted, refused, numbered}
 use Rattle.fields.specs.Le.{put}
 use Rattle.chunk.specs.Chunk.{video_tag, audio_tag, trailer_bytes, chunk_header_of}

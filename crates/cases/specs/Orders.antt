@@ -1,6 +1,6 @@
 -- Which question comes first where several are answered with no, and what a number stands for. Assumes nothing.
 use Rattle.std.specs.Prelude.{◌≡◌, Bool, true, false, ◌&&◌, List, [], ◌∷◌, ◌++◌, ℕ, ◌+◌, ◌^◌, eqb, pos, length, take, drop}
-use Rattle.std.specs.Option.{Option, None, Some}
+use Rattle.std.specs.Prelude.{Option, Some, None}
 use Rattle.error.specs.Answer.{Answer, accepted, numbered, number_of, place_of}
 use Rattle.fields.specs.Le.{put}
 use Rattle.duration.specs.Duration.{packed_of, unpacked_of, run_length}

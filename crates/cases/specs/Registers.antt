@@ -1,6 +1,6 @@
 -- Document 02's register block: steps with the answer, the walker and all 16 bytes written out. Assumes nothing.
 use Rattle.std.specs.Prelude.{◌≡◌, Bool, true, false, List, [], ◌∷◌, ◌++◌, ℕ, ◌+◌, length, take}
-use Rattle.std.specs.Option.{Option, None, Some}
+use Rattle.std.specs.Prelude.{Option, Some, None}
 use Rattle.error.specs.Answer.{accepted}
 use Rattle.fields.specs.Le.{put}
 use Rattle.chunk.specs.Chunk.{video_tag, audio_tag}

@@ -1,6 +1,6 @@
 -- `build_chunk_index`. Assumes nothing.
 use Rattle.std.specs.Prelude.{ℕ, ◌+◌, ◌*◌, min, Bool, true, cond, List, [], ◌∷◌, leb, length}
-use Rattle.std.specs.Result.{Result, Ok, Err}
+use Rattle.std.specs.Prelude.{Result, Ok, Err}
 use Rattle.error.specs.declared.AmvError.{AmvError}
 use Rattle.error.specs.Answer.{Answer, accepted, refused, numbered, ask, and_then}
 use Rattle.error.specs.Refusal.{refusal_of}

@@ -1,6 +1,6 @@
 -- A packet, and what document 01 compares of it. Assumes nothing.
 use Rattle.std.specs.Prelude.{ℕ, ◌+◌, cond, List, [], leb, eqb, length, take, drop}
-use Rattle.std.specs.Option.{Option, None, Some}
+use Rattle.std.specs.Prelude.{Option, Some, None}
 use Rattle.demuxer.specs.declared.packet.Packet.{Packet}
 
 -- "stream, payload, stamp and duration"

@@ -1,6 +1,6 @@
 -- 01's sentences about one read, a second time: by the bytes that stand at the cursor. Assumes nothing.
 use Rattle.std.specs.Prelude.{◌≡◌, ℕ, ◌+◌, ◌≤◌, ◌<◌, Bool, true, false, List, [], ◌∷◌, ◌++◌, length}
-use Rattle.std.specs.Option.{Option, None, Some}
+use Rattle.std.specs.Prelude.{Option, Some, None}
 use Rattle.chunk.specs.Chunk.{video_tag, audio_tag, trailer_bytes, payload_limit}
 use Rattle.error.specs.Answer.{Answer, accepted, refused, numbered}
 use Rattle.error.specs.Sentences.{GivesBack, RefusedBy}

@@ -1,6 +1,6 @@
 -- Steps on the way: what functions below the calls promise each other. Nothing here need be believed. Assumes nothing.
 use Rattle.std.specs.Prelude.{ℕ, ◌+◌, cond, List, leb, length}
-use Rattle.std.specs.Option.{Option, None, Some}
+use Rattle.std.specs.Prelude.{Option, Some, None}
 use Rattle.chunk.specs.declared.ChunkHeader.{ChunkHeader}
 use Rattle.demuxer.specs.Head.{is_trailer, chunk_head}
 use Rattle.demuxer.specs.declared.head.Head.{Head}

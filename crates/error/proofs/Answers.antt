@@ -1,6 +1,6 @@
 -- Questions one after another: what goes on, what refuses, and what an accepted run has passed. Assumes nothing.
 use mathlib.Core.Path.{◌≡◌, refl, sym, ap, ◌∙◌}
-use Rattle.std.specs.Result.{Result, Ok, Err}
+use Rattle.std.proofs.Common.{Result, Ok, Err}
 use mathlib.Core.Bool.{Bool, true, false, ◌&&◌}
 use Prim.Native.Nat.{ℕ}
 use Rattle.fields.proofs.Impossible.{impossible}
@@ -22,13 +22,13 @@ pub accepted-same : {A : Type 0} {x y : A} → ◌≡◌ {A = Answer A} (accepte
 accepted-same e = cc
 
 module _ {B : Type 0} where
-  -- a call that only checks, and what is asked after it
-  pub then_ok : {r : Result Unit AmvError} {x : Answer Unit} (rest : Unit → Answer B) → said r ≡ x → r ≡ (Ok tt) → and_then x rest ≡ rest tt
-  then_ok {r} {x} rest s e = ap (λ (y : Answer Unit). and_then y rest) (sym s ∙ ap said e)
+  -- a call, and what is asked after it
+  pub then_ok : {A : Type 0} {r : Result A AmvError} {x : Answer A} {v : A} (rest : A → Answer B) → said r ≡ x → r ≡ Ok v → and_then x rest ≡ rest v
+  then_ok {A} {r} {x} rest s e = ap (λ (y : Answer A). and_then y rest) (sym s ∙ ap said e)
 
-  pub then_err : {r : Result Unit AmvError} {x : Answer Unit} {e : AmvError} (rest : Unit → Answer B) → said r ≡ x → r ≡ Err e
+  pub then_err : {A : Type 0} {r : Result A AmvError} {x : Answer A} {e : AmvError} (rest : A → Answer B) → said r ≡ x → r ≡ Err e
       → and_then x rest ≡ refused (refusal_of e)
-  then_err {r} {x} {e} rest s p = ap (λ (y : Answer Unit). and_then y rest) (sym s ∙ ap said p)
+  then_err {A} {r} {x} {e} rest s p = ap (λ (y : Answer A). and_then y rest) (sym s ∙ ap said p)
 
   -- what was accepted has passed the first call and the second
   pub then-passed : (x : Answer Unit) (rest : Unit → Answer B) {b : B} → and_then x rest ≡ accepted b → (x ≡ accepted tt) × (rest tt ≡ accepted b)

@@ -1,6 +1,6 @@
 -- The number and the place of each case of `AmvError`, as documents 01 and 02 fix them. Assumes nothing.
 use Rattle.error.specs.Answer.{Answer, accepted, refused, numbered}
-use Rattle.std.specs.Result.{Result, Ok, Err}
+use Rattle.std.specs.Prelude.{Result, Ok, Err}
 use Rattle.error.specs.declared.Refusal.{Refusal}
 use Rattle.error.specs.declared.AmvError.{AmvError}
 use Rattle.error.specs.declared.AmvError.TheVariants.{FileTooLong, PreludeCut, WrongTag, WrongSize, ZeroFps, WrongMicros, WrongFlag, NonzeroReserved}
@@ -60,7 +60,7 @@ refusal_of SampleBufferTooShort = numbered 73 0
 refusal_of WrongRegisterBlock = numbered 74 0
 refusal_of UnknownCommand = numbered 75 0
 
--- the result of a call that only checks
-abbrev pub said : Result Unit AmvError → Answer Unit
-said (Ok tt) = accepted tt
+-- what a call answers, by what it returns
+abbrev pub said : {A : Type 0} → Result A AmvError → Answer A
+said (Ok x) = accepted x
 said (Err e) = refused (refusal_of e)

@@ -1,19 +1,23 @@
 // The refusals: one case for each question of documents 01 and 02 that a call can answer with no.
 #![tactic(auto)]
 
-ghost use Rattle.std.specs.Prelude.{◌≡◌};
+ghost use Rattle.std.specs.Prelude.{◌≡◌, ◌++◌, codes, Some};
+ghost use Rattle.std.specs.Fmt.{decimal};
 ghost use Rattle.error.specs.Answer.{number_of, place_of};
 ghost use Rattle.error.specs.Refusal.{refusal_of, said};
 
+use std::error::Error;
+use std::fmt;
+
 // A refusal as the documents give it: the number of the question, and the place where it was asked.
-#[derive(Clone, Copy)]
+#[derive(Clone, Copy, Debug, PartialEq, Eq)]
 pub struct Refusal {
     pub number: u32,
     pub place: u64,
 }
 
 // Why a call refuses: a case for each question, carrying its place where no document fixes it. `refusal` gives each case's number.
-#[derive(Clone, Copy)]
+#[derive(Clone, Copy, Debug, PartialEq, Eq)]
 pub enum AmvError {
     FileTooLong,
     PreludeCut(u64),
@@ -239,24 +243,33 @@ impl AmvError {
     }
 }
 
-impl Result<(), AmvError> {
-    // The refusal's number, 0 where the call is accepted: an answer as one number, for callers that have no enums. Refuses nothing.
-    pub fn number(self) -> u32
-        ensures { result ≡ number_of (said self) }
-    {
-        match self {
-            Ok(()) => 0,
-            Err(e) => e.number(),
-        }
-    }
+// A refusal in words, as a program tells it to a person: the number of the question, and the place.
+impl fmt::Display for AmvError {
+    ghost output = { λ e. Some (codes "question " ++ (decimal (refusal_of e).number ++ (codes " at " ++ decimal (refusal_of e).place))) };
 
-    // The refusal's place, 0 where the call is accepted. Refuses nothing.
-    pub fn place(self) -> u64
-        ensures { result ≡ place_of (said self) }
-    {
-        match self {
-            Ok(()) => 0,
-            Err(e) => e.place(),
-        }
+    fn fmt<W: fmt::Write>(&self, f: &mut fmt::Formatter<W>) -> fmt::Result {
+        write!(f, "question {} at {}", self.number(), self.place())
+    }
+}
+
+impl Error for AmvError {}
+
+// The number of the question that refused, 0 where the call is accepted: an answer as one number, for callers that have no enums. Refuses nothing.
+pub fn number_of<T: Copy>(answer: Result<T, AmvError>) -> u32
+    ensures { result ≡ number_of (said answer) }
+{
+    match answer {
+        Ok(_) => 0,
+        Err(e) => e.number(),
+    }
+}
+
+// The refusal's place, 0 where the call is accepted. Refuses nothing.
+pub fn place_of<T: Copy>(answer: Result<T, AmvError>) -> u64
+    ensures { result ≡ place_of (said answer) }
+{
+    match answer {
+        Ok(_) => 0,
+        Err(e) => e.place(),
     }
 }

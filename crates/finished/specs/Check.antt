@@ -1,6 +1,6 @@
 -- The check: a fold of the walk. Assumes nothing.
 use Rattle.std.specs.Prelude.{ℕ, Bool, true, false, List, [], ◌∷◌, eqb}
-use Rattle.std.specs.Result.{Result, Ok, Err}
+use Rattle.std.specs.Prelude.{Result, Ok, Err}
 use Rattle.error.specs.declared.AmvError.{AmvError}
 use Rattle.chunk.specs.Interleave.{interleave}
 use Rattle.error.specs.Answer.{Answer, accepted, refused, numbered, ask, and_then}

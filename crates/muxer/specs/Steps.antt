@@ -1,6 +1,6 @@
 -- Steps on the way: what functions below the calls promise each other. Nothing here need be believed. Assumes nothing.
 use Rattle.error.specs.declared.AmvError.{AmvError}
-use Rattle.std.specs.Result.{Result, Ok, Err}
+use Rattle.std.specs.Prelude.{Result, Ok, Err}
 use Rattle.muxer.specs.declared.Writer.{Writer}
 use Rattle.muxer.specs.declared.Wrote.{Wrote}
 

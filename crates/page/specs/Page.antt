@@ -1,6 +1,6 @@
 -- The page: the records of an index as lines for a strip printer. Document 02, M-100. Assumes nothing.
 use Rattle.std.specs.Prelude.{ℕ, ◌*◌, Bool, List, [], ◌∷◌, ◌++◌, leb, eqb, length}
-use Rattle.std.specs.Result.{Result, Ok, Err}
+use Rattle.std.specs.Prelude.{Result, Ok, Err}
 use Rattle.error.specs.declared.AmvError.{AmvError}
 use Rattle.error.specs.Answer.{Answer, accepted, refused, ask, and_then}
 use Rattle.error.specs.Refusal.{refusal_of}

@@ -1,7 +1,7 @@
 -- Reading a page by its columns, as a miller does. Document 02, M-100: "reading the columns yields the record's kind, offset, frames and
 -- samples". Nothing here is said in terms of how a page is printed. Assumes nothing.
 use Rattle.std.specs.Prelude.{ℕ, zero, suc, ◌+◌, ◌-◌, ◌*◌, cond, List, [], ◌∷◌, eqb, take, drop}
-use Rattle.std.specs.Option.{Option, None, Some}
+use Rattle.std.specs.Prelude.{Option, Some, None}
 use Rattle.chunk.specs.Chunk.{video_tag, audio_tag}
 
 -- the columns of a line from one to another, counted from 1

@@ -1,6 +1,6 @@
 -- The `WAVEFORMATEX` of the sound. Assumes nothing.
 use Rattle.std.specs.Prelude.{◌≡◌, ℕ, ◌*◌, min, cond, List, leb, eqb, length}
-use Rattle.std.specs.Result.{Result, Ok, Err}
+use Rattle.std.specs.Prelude.{Result, Ok, Err}
 use Rattle.error.specs.declared.AmvError.{AmvError}
 use Rattle.error.specs.Answer.{Answer, accepted, refused, ask}
 use Rattle.error.specs.Refusal.{refusal_of}

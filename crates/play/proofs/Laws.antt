@@ -1,8 +1,8 @@
 -- How one call of the program goes on from another: writing calls one after the other, and the reads that are left. Assumes nothing.
 use mathlib.Core.Path.{◌≡◌, sym, ap, ap₂, ◌∙◌}
 use Rattle.error.specs.Refusal.{said}
-use Rattle.std.specs.Result.{Result, Ok, Err}
-use Rattle.std.specs.Option.{Option, None, Some}
+use Rattle.std.proofs.Common.{Result, Ok, Err}
+use Rattle.std.proofs.Common.{Option, Some, None}
 use Rattle.error.specs.declared.AmvError.{AmvError}
 use Prim.Native.Nat.{ℕ, suc, ◌-◌, ◌<◌, ◌≤◌}
 use mathlib.Core.List.{List}

@@ -1,7 +1,7 @@
 -- Reads of any file, along its walk: at a whole chunk every walker that has not ended is given its packet, and where the walk stops, or a chunk is
 -- cut, End. So reads until their first End give the drain of the whole chunks, and leave the walker where the walk stops. Assumes nothing.
 use mathlib.Core.Path.{◌≡◌, refl, sym, ap, ◌∙◌, subst}
-use Rattle.std.specs.Option.{Option, None, Some}
+use Rattle.std.proofs.Common.{Option, Some, None}
 use mathlib.Core.Bool.{Bool, true, false}
 use mathlib.Core.List.{List, [], ◌∷◌}
 use Prim.Native.Nat.{ℕ, zero, suc, ◌+◌, ◌≤◌, ◌<◌}

@@ -1,6 +1,6 @@
 -- What a seek finds among the records of chunks: the first one that the machine goes to, with its stamp. Assumes nothing.
 use mathlib.Core.Path.{◌≡◌, refl, ap}
-use Rattle.std.specs.Option.{Option, None, Some}
+use Rattle.std.proofs.Common.{Option, Some, None}
 use mathlib.Core.Bool.{Bool, true, false, cond, ◌&&◌}
 use mathlib.Core.List.{List, [], ◌∷◌}
 use Prim.Native.Nat.{ℕ, zero, suc, ◌≤◌, ◌<◌, suc-le-suc}

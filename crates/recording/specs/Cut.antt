@@ -1,7 +1,7 @@
 -- Which packets survive a supply drop: M-107 of document 02, as a claim about every finished recording and every length that it is cut to.
 -- Assumes nothing.
 use Rattle.std.specs.Prelude.{◌≡◌, ℕ, suc, ◌+◌, ◌≤◌, ◌<◌, min, Bool, true, false, cond, leb, length, take}
-use Rattle.std.specs.Option.{Option, None, Some}
+use Rattle.std.specs.Prelude.{Option, Some, None}
 use mathlib.Core.List.{List, [], ◌∷◌, ◌++◌, Memᴰ}
 use Rattle.chunk.specs.Chunk.{trailer_bytes}
 use Rattle.error.specs.Answer.{accepted, refused, numbered}

@@ -2,7 +2,7 @@
 -- the clock that the whole recording would have shown. Assumes nothing.
 use Rattle.std.specs.Prelude.{◌≡◌, ℕ, suc, ◌-◌, ◌≤◌, ◌<◌, min, List, [], ◌∷◌, ℤ, length, take, drop}
 use Rattle.error.specs.Refusal.{said}
-use Rattle.std.specs.Option.{Option, None, Some}
+use Rattle.std.specs.Prelude.{Option, Some, None}
 use Rattle.std.proofs.Math.ListN.{get_elem?}
 use Rattle.error.specs.Answer.{accepted}
 use Rattle.fields.specs.Le.{Bytes}

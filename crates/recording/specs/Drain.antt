@@ -1,6 +1,6 @@
 -- The full drain. Assumes nothing.
 use Rattle.std.specs.Prelude.{ℕ, suc, ◌+◌, List, [], ◌∷◌}
-use Rattle.std.specs.Option.{Option, None, Some}
+use Rattle.std.specs.Prelude.{Option, Some, None}
 use Rattle.demuxer.specs.Head.{count_of}
 use Rattle.demuxer.specs.Packet.{Shown, packet_duration, ticks}
 use Rattle.walk.specs.Chunks.{Chunk, chunk_of}

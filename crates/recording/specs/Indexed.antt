@@ -2,7 +2,7 @@
 -- such a file, and the claim about every list of calls. Assumes nothing.
 use Rattle.std.specs.Prelude.{◌≡◌, ℕ, ◌+◌, ◌<◌, Bool, true, false, not, cond, ◌||◌, List, [], ◌∷◌, eqb, length, take, drop}
 use Rattle.error.specs.Refusal.{said}
-use Rattle.std.specs.Option.{Option, None, Some}
+use Rattle.std.specs.Prelude.{Option, Some, None}
 use Rattle.std.proofs.Math.ListN.{get_elem?}
 use Rattle.error.specs.Answer.{refused, numbered}
 use Rattle.fields.specs.Le.{Bytes}

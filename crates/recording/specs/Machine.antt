@@ -1,7 +1,7 @@
 -- The plain machine, and the claim about every list of reads and seeks. Assumes nothing.
 use Rattle.std.specs.Prelude.{◌≡◌, ℕ, suc, ◌+◌, ◌<◌, cond, ◌&&◌, List, [], ◌∷◌, leb, eqb, ℤ, pos, length, take, drop}
 use Rattle.error.specs.Refusal.{said}
-use Rattle.std.specs.Option.{Option, None, Some}
+use Rattle.std.specs.Prelude.{Option, Some, None}
 use Rattle.std.proofs.Math.ListN.{get_elem?}
 use Rattle.std.specs.Int.Signed.{le_z}
 use Rattle.error.specs.Answer.{Answer, accepted, refused, numbered}

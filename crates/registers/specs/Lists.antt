@@ -2,7 +2,7 @@
 -- block between them". Assumes nothing.
 use Rattle.std.specs.Prelude.{◌≡◌, ℕ, ◌<◌, true, false, List, [], ◌∷◌, length, drop}
 use Rattle.error.specs.Refusal.{said}
-use Rattle.std.specs.Option.{Option, None, Some}
+use Rattle.std.specs.Prelude.{Option, Some, None}
 use Rattle.error.specs.Answer.{Answer, accepted, refused}
 use Rattle.fields.specs.Le.{le, Bytes}
 use Rattle.demuxer.specs.Packet.{Shown}

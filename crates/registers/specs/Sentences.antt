@@ -1,6 +1,6 @@
 -- 02's sentences about the register block a second time: by each command and what its read or seek answers, and bit by bit. Assumes nothing.
 use Rattle.std.specs.Prelude.{◌≡◌, ℕ, ◌+◌, ◌/◌, ◌%◌, ◌^◌, ◌≤◌, ◌<◌, Bool, true, false, not, ◌&&◌, ◌||◌, List, [], ◌∷◌, eqb, length, drop}
-use Rattle.std.specs.Option.{Option, None, Some}
+use Rattle.std.specs.Prelude.{Option, Some, None}
 use Rattle.error.specs.Answer.{accepted, refused, numbered}
 use Rattle.error.specs.Sentences.{GivesBack, RefusedBy}
 use Rattle.error.specs.declared.Refusal.{Refusal}

@@ -1,7 +1,7 @@
 -- Steps on the way: what functions below the calls promise each other. Nothing here need be believed. Assumes nothing.
 use Rattle.std.specs.Prelude.{◌≡◌, ℕ, List}
-use Rattle.std.specs.Result.{Result, Ok, Err}
-use Rattle.std.specs.Option.{Option, None, Some}
+use Rattle.std.specs.Prelude.{Result, Ok, Err}
+use Rattle.std.specs.Prelude.{Option, Some, None}
 use Rattle.error.specs.declared.AmvError.{AmvError}
 use Rattle.error.specs.Refusal.{refusal_of}
 use Rattle.demuxer.specs.Packet.{ticks}

@@ -1,6 +1,6 @@
 -- A list of writing calls as numbers, its verdicts as numbers, and the claim about them. Assumes nothing.
 use Rattle.std.specs.Prelude.{◌≡◌, ℕ, ◌*◌, ◌≤◌, ◌<◌, Bool, true, false, cond, List, [], ◌∷◌, eqb, length, get_or, take}
-use Rattle.std.specs.Option.{Option, None, Some}
+use Rattle.std.specs.Prelude.{Option, Some, None}
 use Rattle.error.specs.Answer.{Answer, number_of, place_of}
 use Rattle.fields.specs.Le.{put}
 use Rattle.demuxer.specs.Packet.{payload_of}

@@ -1,7 +1,7 @@
 -- The indexed seek. Assumes nothing.
 use Rattle.std.specs.Prelude.{ℕ, ◌+◌, Bool, true, false, cond, ◌&&◌, List, [], ◌∷◌, leb, eqb, ℤ, pos}
-use Rattle.std.specs.Result.{Result, Ok, Err}
-use Rattle.std.specs.Option.{Option, None, Some}
+use Rattle.std.specs.Prelude.{Result, Ok, Err}
+use Rattle.std.specs.Prelude.{Option, Some, None}
 use Rattle.error.specs.declared.AmvError.{AmvError}
 use Rattle.std.specs.Int.Signed.{le_z}
 use Rattle.chunk.specs.Chunk.{video_tag, audio_tag, stream_tag}

@@ -1,6 +1,6 @@
 -- Steps on the way: what functions below the calls promise each other. Nothing here need be believed. Assumes nothing.
 use Rattle.std.specs.Prelude.{ℕ, ℤ, pos, negsuc}
-use Rattle.std.specs.Option.{Option, None, Some}
+use Rattle.std.specs.Prelude.{Option, Some, None}
 use Rattle.demuxer.specs.declared.position.Position.{Position}
 
 -- the least stamp that reaches a signed request

@@ -1,6 +1,6 @@
 -- 02's sentences about a decoded block, a second time: sample by sample, from the block's own bytes. Assumes nothing.
 use Rattle.std.specs.Prelude.{◌≡◌, ℕ, zero, suc, ◌+◌, ◌*◌, ◌-◌, ◌/◌, ◌%◌, ◌≤◌, ◌<◌, min, cond, List, [], ◌∷◌, eqb, ℤ, pos, nat_abs, ◌+ℤ◌, ◌-ℤ◌, length, drop, get_or}
-use Rattle.std.specs.Result.{Result, Ok, Err}
+use Rattle.std.specs.Prelude.{Result, Ok, Err}
 use Rattle.error.specs.declared.AmvError.{AmvError}
 use Rattle.std.specs.Int.{w16}
 use Rattle.std.proofs.Common.{to_z, SFits}

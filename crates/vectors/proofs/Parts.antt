@@ -1,6 +1,6 @@
 -- Where the parts of a case stand that is known to be whole. Assumes nothing.
 use Rattle.std.proofs.Common.{◌≡◌, ℕ, List, subst}
-use Rattle.std.specs.Option.{Option, None, Some}
+use Rattle.std.proofs.Common.{Option, Some, None}
 use Rattle.vectors.specs.Cases.{Parts}
 use Rattle.vectors.specs.declared.case.Case.{Case}
 

@@ -1,6 +1,6 @@
 -- How a stored case is taken apart. Assumes nothing.
 use Rattle.std.specs.Prelude.{◌≡◌, ℕ, zero, suc, ◌+◌, ◌*◌, ◌%◌, ◌<◌, ◌≤◌, min, cond, List, [], ◌∷◌, ◌++◌, length, take, drop, ℤ, pos, negsuc, ◌==◌, slice_index}
-use Rattle.std.specs.Option.{Option, None, Some}
+use Rattle.std.specs.Prelude.{Option, Some, None}
 use Rattle.fields.specs.Le.{le}
 use Rattle.chunk_index.specs.Index.{build_of}
 use Rattle.page.specs.Page.{print_of}

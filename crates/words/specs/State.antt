@@ -1,6 +1,6 @@
 -- The two states as words. Assumes nothing.
 use Rattle.std.specs.Prelude.{◌≡◌, ℕ, Bool, true, cond, ◌&&◌, List, [], ◌∷◌, leb, eqb, length, get_or}
-use Rattle.std.specs.Option.{Option, None, Some}
+use Rattle.std.specs.Prelude.{Option, Some, None}
 use Rattle.fields.specs.Capped.{u32_max}
 use Rattle.error.specs.Answer.{Answer, accepted, refused, numbered, ask}
 use Rattle.demuxer.specs.declared.position.Position.{Position}

@@ -1,7 +1,7 @@
 -- `registers::command_in` meets its contract. Each return is by the laws of `Blocks` on the two questions and the command.
 -- Assumes nothing.
 use mathlib.Core.Path.{◌≡◌, sym, ap, ◌∙◌}
-use Rattle.std.specs.Option.{Option, None, Some}
+use Rattle.std.proofs.Common.{Option, Some, None}
 use Prim.Native.Nat.{ℕ}
 use native.Mathlib.Omega.{arith}
 use mir.Syntax.{w64}

@@ -3,7 +3,7 @@
 -- Assumes nothing.
 use mathlib.Core.Path.{◌≡◌, sym, ap, ◌∙◌}
 use Rattle.error.specs.Refusal.{said}
-use Rattle.std.specs.Result.{Result, Ok, Err}
+use Rattle.std.proofs.Common.{Result, Ok, Err}
 use Rattle.error.specs.declared.AmvError.{AmvError}
 use Prim.Native.Nat.{ℕ}
 use mathlib.Core.List.{List}

@@ -2,7 +2,7 @@
 -- and the tags from here on are what is left of the question. The measure is the bytes from here on, of which each chunk takes 8.
 -- Assumes nothing.
 use mathlib.Core.Path.{◌≡◌, refl, sym, ◌∙◌}
-use Rattle.std.specs.Result.{Result, Ok, Err}
+use Rattle.std.proofs.Common.{Result, Ok, Err}
 use Rattle.error.specs.declared.AmvError.{AmvError}
 use mathlib.Core.List.{List}
 use Prim.Native.Nat.{ℕ, ◌<◌}

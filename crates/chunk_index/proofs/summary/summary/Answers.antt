@@ -1,7 +1,7 @@
 -- `chunk_index::summary::summary` meets its contract. Above the limit the answer is 10; within it, what was counted, where every tag is known.
 -- Assumes nothing.
 use mathlib.Core.Path.{◌≡◌, sym, ap, ◌∙◌}
-use Rattle.std.specs.Result.{Result, Ok, Err}
+use Rattle.std.proofs.Common.{Result, Ok, Err}
 use Rattle.error.specs.declared.AmvError.{AmvError}
 use mathlib.Core.Bool.{true}
 use mathlib.Core.List.{List}

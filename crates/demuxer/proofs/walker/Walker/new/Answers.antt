@@ -1,7 +1,7 @@
 -- `demuxer::walker::Walker::new` meets its contract. The position is what `Position::new` gives, and the marks are constants.
 -- Assumes nothing.
 use mathlib.Core.Bool.{false}
-use Rattle.std.specs.Option.{Option, None, Some}
+use Rattle.std.proofs.Common.{Option, Some, None}
 use Rattle.demuxer.proofs.walker.Walker.new.Goals as goal
 
 pub returns : goal.returns
