@@ -3,10 +3,11 @@
 #![tactic(auto)]
 
 ghost use Rattle.std.specs.Prelude.{◌≡◌, cond};
+ghost use Rattle.error.specs.Refusal.{said};
 ghost use Rattle.error.specs.Answer.{accepted};
 ghost use Rattle.chunk.specs.Interleave.{interleave};
 ghost use Rattle.duration.specs.Duration.{packed_of, run_length};
-ghost use Rattle.prelude.specs.Prelude.{said, parse_of, strict_of};
+ghost use Rattle.prelude.specs.Prelude.{parse_of, strict_of};
 ghost use Rattle.chunk_index.specs.Index.{build_of};
 ghost use Rattle.page.specs.Page.{print_of};
 ghost use Rattle.sound.specs.Sound.{decode_of};

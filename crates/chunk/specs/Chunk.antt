@@ -1,9 +1,6 @@
 -- A chunk's tag, kind and header. Assumes nothing.
 use Rattle.std.specs.Prelude.{ℕ, ◌+◌, cond, List, [], ◌∷◌, leb, eqb, length}
-use Rattle.std.specs.Prelude.{Result, Ok, Err}
-use Rattle.error.specs.declared.AmvError.{AmvError}
-use Rattle.error.specs.Answer.{Answer, accepted, refused, ask}
-use Rattle.error.specs.Refusal.{refusal_of}
+use Rattle.error.specs.Answer.{Answer, accepted, ask}
 use Rattle.fields.specs.Capped.{u32_max}
 use Rattle.fields.specs.Le.{le}
 use Rattle.chunk.specs.declared.ChunkKind.{ChunkKind}
@@ -48,4 +45,3 @@ chunk_header_of s = ask (leb 8 (length s)) 29 0 (accepted (record { tag = le 4 s
 -- 02: tag and length "straight from the file", at an offset of it; "29 included", where fewer than 8 bytes are left from there
 unfoldable pub chunk_header_at : List ℕ → ℕ → Answer ChunkHeader
 chunk_header_at file at = ask (leb (at + 8) (length file)) 29 0 (accepted (record { tag = le 4 file at; size = le 4 file (at + 4) }))
-

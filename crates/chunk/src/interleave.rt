@@ -35,17 +35,13 @@ pub fn interleave_at(tag: u32, position: u64) -> Result<(), AmvError>
 pub fn validate_movi_interleave(tags: &[u32]) -> Result<(), AmvError>
     ensures { said result ≡ interleave tags.now }
 {
-    let mut i = 0;
-    while i < tags.len() {
-        let at = interleave_at(tags[i], i as u64);
-        let Ok(()) = at else {
-            return at;
-        };
-        i += 1;
+    for (position, &tag) in tags.iter().enumerate() {
+        interleave_at(tag, position as u64)?;
     }
-    if i % 2 == 0 {
+    let count = tags.len() as u64;
+    if count % 2 == 0 {
         Ok(())
     } else {
-        Err(AmvError::OddChunkCount(i as u64))
+        Err(AmvError::OddChunkCount(count))
     }
 }

@@ -4,7 +4,8 @@
 pub mod interleave;
 
 ghost use Rattle.std.specs.Prelude.{◌≡◌};
-ghost use Rattle.chunk.specs.Chunk.{kind_of, tag_of, stream_tag, advance_total, said, chunk_header_of, chunk_header_at};
+ghost use Rattle.error.specs.Refusal.{said};
+ghost use Rattle.chunk.specs.Chunk.{kind_of, tag_of, stream_tag, advance_total, chunk_header_of, chunk_header_at};
 
 use error::AmvError;
 
@@ -18,7 +19,7 @@ pub const AUDIO_CHUNK_TAG: u32 = 0x62773130; // 01wb
 pub const PAYLOAD_LIMIT: usize = fields::U32_MAX as usize;
 
 // What a tag says of its chunk; any tag but the two is kept.
-#[derive(Clone, Copy)]
+#[derive(Clone, Copy, Debug, PartialEq, Eq)]
 pub enum ChunkKind {
     Video,
     Audio,
@@ -69,7 +70,7 @@ pub fn advance_total(size: u32) -> u64
 }
 
 // The 8 bytes before a payload.
-#[derive(Clone, Copy)]
+#[derive(Clone, Copy, Debug, PartialEq, Eq)]
 pub struct ChunkHeader {
     pub tag: u32,
     // Of the payload alone, without this header.

@@ -1,11 +1,12 @@
 // Building the index.
 ghost use Rattle.std.specs.Prelude.{◌≡◌, ◌*◌, ◌≤◌, length};
+ghost use Rattle.error.specs.Refusal.{said};
 ghost use Rattle.fields.specs.File.{file_limit};
 ghost use Rattle.fields.specs.Le.{put};
 ghost use Rattle.demuxer.specs.Position.{start};
 ghost use Rattle.walk.specs.Walk.{file_walk};
 ghost use Rattle.chunk_index.specs.Entry.{entry_len, table_bytes};
-ghost use Rattle.chunk_index.specs.Index.{records, build_of, said};
+ghost use Rattle.chunk_index.specs.Index.{records, build_of};
 ghost use Rattle.chunk_index.specs.Steps.{recorded_at, count_records};
 
 use crate::entry::ChunkIndexEntry;

@@ -1,9 +1,10 @@
 // The summary: how many whole frames and blocks a file has, which are those that it plays.
 ghost use Rattle.std.specs.Prelude.{◌≡◌, ◌≤◌, length};
+ghost use Rattle.error.specs.Refusal.{said};
 ghost use Rattle.fields.specs.File.{file_limit};
 ghost use Rattle.demuxer.specs.Position.{count_limit};
 ghost use Rattle.chunk_index.specs.Steps.{IsCount};
-ghost use Rattle.chunk_index.specs.Summary.{counted, summary_of, said};
+ghost use Rattle.chunk_index.specs.Summary.{counted, summary_of};
 
 use chunk::advance_total;
 use demuxer::walker::Walker;

@@ -1,6 +1,7 @@
 -- Questions one after another: what goes on, what refuses, and what an accepted run has passed. Assumes nothing.
 use mathlib.Core.Path.{◌≡◌, refl, sym, ap, ◌∙◌}
-use Rattle.std.proofs.Common.{Result, Ok, Err}
+use Rattle.std.specs.Prelude.{Result, Ok, Err, IsErr, IsErrAnd}
+use Rattle.std.proofs.lemmas.Result.{err_from_is_err_and}
 use mathlib.Core.Bool.{Bool, true, false, ◌&&◌}
 use Prim.Native.Nat.{ℕ}
 use Rattle.fields.proofs.Impossible.{impossible}
@@ -20,6 +21,10 @@ clash p q = impossible cc
 -- equal answers accept the same value
 pub accepted-same : {A : Type 0} {x y : A} → ◌≡◌ {A = Answer A} (accepted x) (accepted y) → x ≡ y
 accepted-same e = cc
+
+-- at the exit of a `?` a call is refused as the one that it made
+pub passed_on : {A : Type 0} (r : Result A AmvError) (e : AmvError) → (IsErr r × IsErrAnd r (λ y. y ≡ e)) → said r ≡ refused (refusal_of e)
+passed_on r e h = let p = err_from_is_err_and r h.1 in rw (p.1, p.2)
 
 module _ {B : Type 0} where
   -- a call, and what is asked after it

@@ -2,11 +2,12 @@
 #![tactic(auto)]
 
 ghost use Rattle.std.specs.Prelude.{◌≡◌, ◌&&◌, ◌≤◌, ◌+◌, ◌-◌, length};
+ghost use Rattle.error.specs.Refusal.{said};
 ghost use Rattle.chunk.specs.Chunk.{kind_of};
 ghost use Rattle.chunk.specs.Interleave.{interleave_at, even};
 ghost use Rattle.fields.specs.File.{file_limit};
 ghost use Rattle.walk.specs.Walk.{trailer};
-ghost use Rattle.finished.specs.Check.{passes, check_stop, check_chunks, check_of, said};
+ghost use Rattle.finished.specs.Check.{passes, check_stop, check_chunks, check_of};
 
 use chunk::interleave::interleave_at;
 use demuxer::position::Position;

@@ -8,7 +8,7 @@ ghost use Rattle.fields.specs.Le.{put};
 ghost use Rattle.chunk_index.specs.Entry.{entries_of};
 ghost use Rattle.table.specs.Table.{ask_each};
 ghost use Rattle.table.specs.Steps.{most_samples};
-ghost use Rattle.page.specs.Page.{columns, narrow_samples, page_line, page_lines, page_questions, print_of, said};
+ghost use Rattle.page.specs.Page.{columns, narrow_samples, page_line, page_lines, page_questions, print_of};
 ghost use Rattle.page.specs.Steps.{Fits};
 
 use chunk_index::entry::ChunkIndexEntry;

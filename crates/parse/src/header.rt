@@ -2,7 +2,7 @@
 ghost use Rattle.std.specs.Prelude.{◌≡◌, ◌*◌, pos};
 ghost use Rattle.error.specs.Refusal.{said};
 ghost use Rattle.duration.specs.Duration.{unpacked_of, total_seconds};
-ghost use Rattle.parse.specs.Header.{new_header, header_of, said, header_sentinels};
+ghost use Rattle.parse.specs.Header.{new_header, header_of, header_sentinels};
 
 use duration::AmvDuration;
 use error::AmvError;

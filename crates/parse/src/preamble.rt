@@ -4,7 +4,7 @@ ghost use Rattle.std.specs.Int.{w16};
 ghost use Rattle.std.proofs.Common.{to_z};
 ghost use Rattle.error.specs.Refusal.{said};
 ghost use Rattle.fields.specs.Capped.{quotient};
-ghost use Rattle.parse.specs.Preamble.{preamble_of, said, preamble_sentinels, state_byte, nibble_bytes, padding_slack};
+ghost use Rattle.parse.specs.Preamble.{preamble_of, preamble_sentinels, state_byte, nibble_bytes, padding_slack};
 
 use error::AmvError;
 

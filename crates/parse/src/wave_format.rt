@@ -2,7 +2,7 @@
 ghost use Rattle.std.specs.Prelude.{◌≡◌};
 ghost use Rattle.error.specs.Refusal.{said};
 ghost use Rattle.fields.specs.Capped.{quotient};
-ghost use Rattle.parse.specs.WaveFormat.{new_wave_format, wave_format_of, said, cb_size_of, wave_format_sentinels};
+ghost use Rattle.parse.specs.WaveFormat.{new_wave_format, wave_format_of, cb_size_of, wave_format_sentinels};
 
 use error::AmvError;
 

@@ -3,7 +3,7 @@ ghost use Rattle.std.specs.Prelude.{◌≡◌, ◌+◌, ◌≤◌, length, leb};
 ghost use Rattle.error.specs.Answer.{accepted};
 ghost use Rattle.error.specs.Refusal.{refusal_of, said};
 ghost use Rattle.prelude.specs.Layout.{prelude_len, layout, ask_word, ask_body, ask_item, ask_items};
-ghost use Rattle.prelude.specs.Prelude.{said, prelude_fields, parse_of, zeros, zero_ranges, validated_of, strict_of};
+ghost use Rattle.prelude.specs.Prelude.{prelude_fields, parse_of, zeros, zero_ranges, validated_of, strict_of};
 
 use crate::layout::LayoutItem;
 use error::AmvError;

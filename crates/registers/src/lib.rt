@@ -2,10 +2,11 @@
 #![tactic(auto)]
 
 ghost use Rattle.std.specs.Prelude.{◌≡◌, ◌+◌, cond, ◌++◌, length, drop};
+ghost use Rattle.error.specs.Refusal.{said};
 ghost use Rattle.std.specs.Int.{w64};
 ghost use Rattle.std.proofs.Common.{to_z};
 ghost use Rattle.registers.specs.Registers.{command_in, perform, pending_of, front_after, MeetsStep};
-ghost use Rattle.registers.specs.Steps.{call_of, said, read_done, seek_done, said_performed, DonePlaced};
+ghost use Rattle.registers.specs.Steps.{call_of, read_done, seek_done, said_performed, DonePlaced};
 ghost use Rattle.registers.specs.Steps.{told_of, bits_of, number_of, stamped_by, block_told, result_of};
 
 use demuxer::packet::Packet;

@@ -2,9 +2,8 @@
 #![tactic(auto)]
 
 ghost use Rattle.std.specs.Prelude.{◌≡◌, ◌+◌, ◌≤◌, length};
+ghost use Rattle.error.specs.Refusal.{said};
 ghost use Rattle.fields.specs.Le.{put};
-ghost use Rattle.demuxer.specs.Packet.{ticks};
-ghost use Rattle.seek.specs.Seek.{said};
 ghost use Rattle.replay.specs.Replay.{row_words, refusal_row, packet_row, sought_row, call_of, Replayed, Compared};
 ghost use Rattle.replay.specs.Steps.{next_row, Answered};
 

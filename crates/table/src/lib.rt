@@ -6,7 +6,7 @@ ghost use Rattle.error.specs.Answer.{and_then};
 ghost use Rattle.error.specs.Refusal.{said};
 ghost use Rattle.chunk_index.specs.Entry.{entries_of};
 ghost use Rattle.table.specs.Table.{good_entry, whole_records};
-ghost use Rattle.table.specs.Steps.{pass_over, said};
+ghost use Rattle.table.specs.Steps.{pass_over};
 
 use chunk_index::entry::ChunkIndexEntry;
 use error::AmvError;

@@ -1,6 +1,5 @@
 // The words of an answer. None of these functions refuses: each spells out an answer that is known.
 ghost use Rattle.std.specs.Prelude.{◌≡◌, ◌∷◌};
-ghost use Rattle.demuxer.specs.Packet.{ticks};
 ghost use Rattle.error.specs.Refusal.{said};
 ghost use Rattle.words.specs.Out.{OutSays, checked, shown_duration, prelude_words, packet_words};
 
