@@ -8,7 +8,7 @@ use duration::AmvDuration;
 use error::AmvError;
 
 // The fields of the body that a reader needs; the rest of it is zero, which the strict parse asks.
-#[derive(Clone, Copy)]
+#[derive(Clone, Copy, Debug, PartialEq, Eq)]
 pub struct AmvHeader {
     pub micros_per_frame: u32,
     pub width: u32,
@@ -39,6 +39,7 @@ impl AmvHeader {
     }
 
     // The fields of a body; fewer than 56 bytes are refused with 28. What they hold is asked by `validate_sentinels`.
+    #[tactic(auto, unfolding(crate::specs::Header::header_of, crate::specs::Header::header_fields))]
     pub fn parse(body: &[u8]) -> Result<AmvHeader, AmvError>
         ensures { said result ≡ header_of body.now }
     {
@@ -74,6 +75,7 @@ impl AmvHeader {
 
     // Whether it is what a device writes. Refused in this order: fps 0 with 14, another quotient than 1,000,000/fps with 15, a flag that is
     // not 1 with 16, a reserved number that is not 0 with 17.
+    #[tactic(auto, unfolding(crate::specs::Header::header_sentinels))]
     pub fn validate_sentinels(self) -> Result<(), AmvError>
         ensures { said result ≡ header_sentinels self }
     {

@@ -15,7 +15,7 @@ pub const AMV_AUDIO_PREAMBLE_LEN: u64 = 8;
 pub const IMA_STEP_INDEX_MAX: u8 = 88;
 
 // The decoder's first state in one number, and how many samples the block holds.
-#[derive(Clone, Copy)]
+#[derive(Clone, Copy, Debug, PartialEq, Eq)]
 pub struct AmvAudioPreamble {
     pub state: u32,
     pub decoded_sample_count: u32,
@@ -23,6 +23,7 @@ pub struct AmvAudioPreamble {
 
 impl AmvAudioPreamble {
     // The preamble of a sound payload; fewer than 8 bytes are refused with 25.
+    #[tactic(auto, unfolding(crate::specs::Preamble::preamble_of))]
     pub fn parse(body: &[u8]) -> Result<AmvAudioPreamble, AmvError>
         ensures { said result ≡ preamble_of body.now }
     {
@@ -72,38 +73,30 @@ impl AmvAudioPreamble {
     pub fn body_padding_slack(self, total_payload_len: u64) -> Option<u64>
         ensures { result ≡ padding_slack (8 + nibble_bytes self.decoded_sample_count) total_payload_len }
     {
-        let exact = AMV_AUDIO_PREAMBLE_LEN + self.nibble_body_len();
-        if total_payload_len < exact {
-            None
-        } else {
-            Some(total_payload_len - exact)
-        }
+        total_payload_len.checked_sub(AMV_AUDIO_PREAMBLE_LEN + self.nibble_body_len())
     }
 
     // The decoder's first predictor: the low two bytes of the state, as a signed number. Refuses nothing.
     pub fn initial_predictor(self) -> i16
         ensures { result ≡ to_z w16 (self.state % 65536) }
     {
-        let low = self.state % 65536;
-        if low < 32768 {
-            low as i16
-        } else {
-            -1 - (65535 - low) as i16
-        }
+        ((self.state % 65536) as u16).cast_signed()
     }
 
     // The decoder's first step index: the third byte. Refuses nothing; `step_index_in_ima_range` says whether a decoder has it.
+    #[tactic(auto, unfolding(crate::specs::Preamble::state_byte, fields::specs::Le::le_bytes))]
     pub fn initial_step_index(self) -> u8
         ensures { result ≡ state_byte 2 self }
     {
-        (self.state / 65536 % 256) as u8
+        self.state.to_le_bytes()[2]
     }
 
     // The fourth byte, which devices leave constant. Refuses nothing.
+    #[tactic(auto, unfolding(crate::specs::Preamble::state_byte, fields::specs::Le::le_bytes))]
     pub fn device_constant_byte(self) -> u8
         ensures { result ≡ state_byte 3 self }
     {
-        (self.state / 16777216) as u8
+        self.state.to_le_bytes()[3]
     }
 
     // Whether the first step index is one that IMA ADPCM has. Refuses nothing.

@@ -7,7 +7,7 @@ ghost use Rattle.parse.specs.WaveFormat.{new_wave_format, wave_format_of, cb_siz
 use error::AmvError;
 
 // Microsoft's fields, by its names.
-#[derive(Clone, Copy)]
+#[derive(Clone, Copy, Debug, PartialEq, Eq)]
 pub struct AmvWaveFormat {
     pub format_tag: u16,
     pub channels: u16,
@@ -19,6 +19,7 @@ pub struct AmvWaveFormat {
 }
 
 // A body shorter than that of a file has no `cbSize`: it counts as 0, whatever stands there.
+#[tactic(auto, unfolding(crate::specs::WaveFormat::cb_size_of))]
 fn cb_size(body: &[u8]) -> u16
     ensures { result ≡ cb_size_of body.now }
 {
@@ -52,6 +53,7 @@ impl AmvWaveFormat {
     }
 
     // The fields of a body; fewer than 18 bytes are refused with 27. What they hold is asked by `validate_sentinels`.
+    #[tactic(auto, unfolding(crate::specs::WaveFormat::wave_format_of, crate::specs::WaveFormat::wave_format_fields))]
     pub fn parse(body: &[u8]) -> Result<AmvWaveFormat, AmvError>
         ensures { said result ≡ wave_format_of body.now }
     {
@@ -79,6 +81,7 @@ impl AmvWaveFormat {
 
     // Whether it is what a device writes, at any sample rate. Refused in this order: format 19, channels 20, average 21, align 22, bits 23,
     // cbSize 24.
+    #[tactic(auto, unfolding(crate::specs::WaveFormat::wave_format_sentinels))]
     pub fn validate_sentinels(self) -> Result<(), AmvError>
         ensures { said result ≡ wave_format_sentinels self }
     {
