@@ -7,18 +7,24 @@ use borrow.Author.Tests.{leb-true}
 use lib.Dec.{leb}
 use lib.ListN.{length, drop, get_or}
 use lib.Seq.{drop-cons}
+use lib.ListN.{drop_of_length-le}
 use Rattle.error.specs.Answer.{accepted, numbered, and_then}
 use Rattle.error.proofs.Answers.{then-passed, ask-passed}
-use Rattle.prelude.specs.Layout.{prelude_len, layout, past, ask_word, ask_item, ask_items, movi}
+use Rattle.prelude.specs.Layout.{prelude_len, layout, ask_word, ask_item, ask_items, movi}
 use Rattle.fields.specs.File.{within_limit}
 use Rattle.prelude.specs.Prelude.{prelude_fields, parse_of}
 use Rattle.prelude.specs.declared.layout.LayoutItem.{LayoutItem}
 use Rattle.prelude.specs.declared.prelude.AmvPrelude.{AmvPrelude}
 
-pub items-step : (file : List ℕ) (items : List LayoutItem) (i : ℕ) → i < length items
-    → ask_items file (drop i items) ≡ and_then (ask_item file (get_or items i past)) (λ _. ask_items file (drop (i + 1) items))
+pub items-step : (file : List ℕ) (items : List LayoutItem) (i : ℕ) (d : LayoutItem) → i < length items
+    → ask_items file (drop i items) ≡ and_then (ask_item file (get_or items i d)) (λ _. ask_items file (drop (i + 1) items))
 unfolding ask_items
-items-step file items i h = rw (add-one, drop-cons items i past)
+items-step file items i d h = rw (add-one, drop-cons items i d)
+
+-- past the last item nothing is left to ask
+pub items-end : (file : List ℕ) (i : ℕ) → length layout ≤ i → ask_items file (drop i layout) ≡ accepted tt
+unfolding ask_items
+items-end file i h = rw (drop_of_length-le layout h)
 
 items-drop : (file : List ℕ) (n : ℕ) (items : List LayoutItem) → ask_items file items ≡ accepted tt → ask_items file (drop n items) ≡ accepted tt
 unfolding ask_items

@@ -1,9 +1,6 @@
 -- The prelude as it is read. Assumes nothing.
 use Rattle.std.specs.Prelude.{ℕ, zero, suc, ◌-◌, List, eqb, take, drop, get_or}
-use Rattle.std.specs.Prelude.{Result, Ok, Err}
-use Rattle.error.specs.declared.AmvError.{AmvError}
-use Rattle.error.specs.Answer.{Answer, accepted, refused, ask, and_then}
-use Rattle.error.specs.Refusal.{refusal_of}
+use Rattle.error.specs.Answer.{Answer, accepted, ask, and_then}
 use Rattle.fields.specs.File.{within_limit}
 use Rattle.parse.specs.Header.{header_fields, header_sentinels}
 use Rattle.parse.specs.WaveFormat.{wave_format_fields, wave_format_sentinels}
@@ -50,4 +47,3 @@ validated_of p file =
 
 unfoldable pub strict_of : List ℕ → Answer AmvPrelude
 strict_of file = and_then (parse_of file) (λ p. validated_of p file)
-

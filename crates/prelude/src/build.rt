@@ -4,11 +4,11 @@ ghost use Rattle.prelude.specs.Layout.{prelude_len, layout};
 ghost use Rattle.prelude.specs.Built.{built_of};
 ghost use Rattle.prelude.specs.Steps.{Within, write_item, write_items, header_stores, wave_format_stores};
 
-use crate::layout::LayoutItem;
+use crate::layout::{LAYOUT, LayoutItem};
 use crate::prelude::AmvPrelude;
 
 // The bytes together with the settings that they hold.
-#[derive(Clone, Copy)]
+#[derive(Clone, Copy, Debug, PartialEq, Eq)]
 pub struct BuiltPrelude {
     pub bytes: [u8; AmvPrelude::LEN],
     pub width: u32,
@@ -19,9 +19,8 @@ pub struct BuiltPrelude {
 }
 
 // The value of a tag or a size; a body is left as it is.
-fn write_item(bytes: &mut [u8], item: LayoutItem)
-    requires bytes_len { length bytes.old ≡ prelude_len }
-    requires within { Within item }
+fn write_item(bytes: &mut [u8; AmvPrelude::LEN], item: LayoutItem)
+    requires { Within item }
     ensures { bytes.new ≡ write_item bytes.old item }
 {
     match item {
@@ -32,20 +31,23 @@ fn write_item(bytes: &mut [u8], item: LayoutItem)
 }
 
 // Every tag and size of the layout.
-fn write_layout(bytes: &mut [u8])
-    requires { length bytes.old ≡ prelude_len }
+fn write_layout(bytes: &mut [u8; AmvPrelude::LEN])
     ensures { bytes.new ≡ write_items bytes.old layout }
 {
-    let mut i = 0;
-    while i < LayoutItem::COUNT {
-        write_item(bytes, LayoutItem::at(i));
-        i += 1;
+    for item in LAYOUT {
+        write_item(bytes, item);
     }
 }
 
 // The fields of `amvh` that are not zero.
-fn write_header_body(bytes: &mut [u8], width: u32, height: u32, fps: u32, duration_packed: u32)
-    requires { length bytes.old ≡ prelude_len }
+#[tactic(auto, unfolding(crate::specs::Steps::header_stores))]
+fn write_header_body(
+    bytes: &mut [u8; AmvPrelude::LEN],
+    width: u32,
+    height: u32,
+    fps: u32,
+    duration_packed: u32,
+)
     ensures { bytes.new ≡ header_stores bytes.old width height fps duration_packed }
 {
     fields::write_u32_le(bytes, 32, fields::quotient(1000000, fps));
@@ -57,8 +59,8 @@ fn write_header_body(bytes: &mut [u8], width: u32, height: u32, fps: u32, durati
 }
 
 // The fields of the sound format that are not zero.
-fn write_wave_format(bytes: &mut [u8], rate: u32, channels: u16)
-    requires { length bytes.old ≡ prelude_len }
+#[tactic(auto, unfolding(crate::specs::Steps::wave_format_stores))]
+fn write_wave_format(bytes: &mut [u8; AmvPrelude::LEN], rate: u32, channels: u16)
     ensures { bytes.new ≡ wave_format_stores bytes.old rate channels }
 {
     fields::write_u16_le(bytes, 284, 1);

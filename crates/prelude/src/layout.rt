@@ -1,8 +1,4 @@
 // The prelude's fixed items, in offset order.
-ghost use Rattle.std.specs.Prelude.{◌≡◌, get_or};
-ghost use Rattle.prelude.specs.Layout.{layout, past};
-
-use crate::prelude::AmvPrelude;
 use parse::header::AmvHeader;
 use parse::wave_format::AmvWaveFormat;
 
@@ -31,45 +27,35 @@ const AMVH_SIZE: u32 = AmvHeader::LEN as u32;
 const SOUND_STRF_SIZE: u32 = AmvWaveFormat::LEN as u32;
 
 // Each with its offset: a tag, a size that is fixed, or a body of so many bytes.
-#[derive(Clone, Copy)]
+#[derive(Clone, Copy, Debug, PartialEq, Eq)]
 pub enum LayoutItem {
     Tag(usize, u32),
     Size(usize, u32),
     Body(usize, usize),
 }
 
-impl LayoutItem {
-    // The number of items.
-    pub const COUNT: usize = 22;
-
-    // The item of a number; reader and builder go through the same list. Refuses nothing: past the last stands an empty body, at the first chunk.
-    pub fn at(i: usize) -> LayoutItem
-        ensures { result ≡ get_or layout i past }
-    {
-        match i {
-            0 => LayoutItem::Tag(0, RIFF),
-            1 => LayoutItem::Tag(8, AMV),
-            2 => LayoutItem::Tag(12, LIST),
-            3 => LayoutItem::Tag(20, HDRL),
-            4 => LayoutItem::Tag(24, AMVH),
-            5 => LayoutItem::Size(28, AMVH_SIZE),
-            6 => LayoutItem::Body(32, AmvHeader::LEN),
-            7 => LayoutItem::Tag(88, LIST),
-            8 => LayoutItem::Tag(96, STRL),
-            9 => LayoutItem::Tag(100, STRH),
-            10 => LayoutItem::Size(104, 56),
-            11 => LayoutItem::Tag(164, STRF),
-            12 => LayoutItem::Size(168, 36),
-            13 => LayoutItem::Tag(208, LIST),
-            14 => LayoutItem::Tag(216, STRL),
-            15 => LayoutItem::Tag(220, STRH),
-            16 => LayoutItem::Size(224, 48),
-            17 => LayoutItem::Tag(276, STRF),
-            18 => LayoutItem::Size(280, SOUND_STRF_SIZE),
-            19 => LayoutItem::Body(284, AmvWaveFormat::LEN),
-            20 => LayoutItem::Tag(304, LIST),
-            21 => LayoutItem::Tag(312, MOVI),
-            _ => LayoutItem::Body(AmvPrelude::LEN, 0),
-        }
-    }
-}
+// The items; reader and builder go through the same list.
+pub const LAYOUT: [LayoutItem; 22] = [
+    LayoutItem::Tag(0, RIFF),
+    LayoutItem::Tag(8, AMV),
+    LayoutItem::Tag(12, LIST),
+    LayoutItem::Tag(20, HDRL),
+    LayoutItem::Tag(24, AMVH),
+    LayoutItem::Size(28, AMVH_SIZE),
+    LayoutItem::Body(32, AmvHeader::LEN),
+    LayoutItem::Tag(88, LIST),
+    LayoutItem::Tag(96, STRL),
+    LayoutItem::Tag(100, STRH),
+    LayoutItem::Size(104, 56),
+    LayoutItem::Tag(164, STRF),
+    LayoutItem::Size(168, 36),
+    LayoutItem::Tag(208, LIST),
+    LayoutItem::Tag(216, STRL),
+    LayoutItem::Tag(220, STRH),
+    LayoutItem::Size(224, 48),
+    LayoutItem::Tag(276, STRF),
+    LayoutItem::Size(280, SOUND_STRF_SIZE),
+    LayoutItem::Body(284, AmvWaveFormat::LEN),
+    LayoutItem::Tag(304, LIST),
+    LayoutItem::Tag(312, MOVI),
+];

@@ -5,7 +5,7 @@ ghost use Rattle.error.specs.Refusal.{refusal_of, said};
 ghost use Rattle.prelude.specs.Layout.{prelude_len, layout, ask_word, ask_body, ask_item, ask_items};
 ghost use Rattle.prelude.specs.Prelude.{prelude_fields, parse_of, zeros, zero_ranges, validated_of, strict_of};
 
-use crate::layout::LayoutItem;
+use crate::layout::{LAYOUT, LayoutItem};
 use error::AmvError;
 use parse::header::AmvHeader;
 use parse::wave_format::AmvWaveFormat;
@@ -20,7 +20,7 @@ const WAVE_FORMAT_START: usize = 284;
 const WAVE_FORMAT_END: usize = WAVE_FORMAT_START + AmvWaveFormat::LEN;
 
 // What a prelude says: the two bodies, and where the chunks start.
-#[derive(Clone, Copy)]
+#[derive(Clone, Copy, Debug, PartialEq, Eq)]
 pub struct AmvPrelude {
     pub header: AmvHeader,
     pub audio_format: AmvWaveFormat,
@@ -31,16 +31,11 @@ pub struct AmvPrelude {
 fn reaches(file: &[u8], place: usize, len: usize) -> bool
     ensures { result ≡ leb (place + len) (length file.now) }
 {
-    if file.len() < place {
-        return false;
-    }
-    if file.len() - place < len {
-        return false;
-    }
-    true
+    place <= file.len() && len <= file.len() - place
 }
 
 // A tag or a size: the four bytes are there, and they are the ones expected, or else it is refused as wrong.
+#[tactic(auto, unfolding(crate::specs::Layout::ask_word))]
 fn require_word(file: &[u8], place: usize, expected: u32, wrong: AmvError) -> Result<(), AmvError>
     ensures { said result ≡ ask_word file.now place expected (refusal_of wrong) }
 {
@@ -56,6 +51,7 @@ fn require_word(file: &[u8], place: usize, expected: u32, wrong: AmvError) -> Re
 }
 
 // A body is there as a whole.
+#[tactic(auto, unfolding(crate::specs::Layout::ask_body))]
 fn require_body(file: &[u8], place: usize, len: usize) -> Result<(), AmvError>
     ensures { said result ≡ ask_body file.now place len }
 {
@@ -91,13 +87,8 @@ fn require_item(file: &[u8], item: LayoutItem) -> Result<(), AmvError>
 fn require_layout(file: &[u8]) -> Result<(), AmvError>
     ensures { said result ≡ ask_items file.now layout }
 {
-    let mut i = 0;
-    while i < LayoutItem::COUNT {
-        let required = require_item(file, LayoutItem::at(i));
-        let Ok(()) = required else {
-            return required;
-        };
-        i += 1;
+    for item in LAYOUT {
+        require_item(file, item)?;
     }
     Ok(())
 }
@@ -107,34 +98,23 @@ fn require_all_zero(file: &[u8], place: usize, len: usize) -> Result<(), AmvErro
     requires { place + len ≤ length file.now }
     ensures { said result ≡ zeros file.now place len }
 {
-    let mut i = 0;
-    while i < len {
-        let at = place + i;
+    for at in place..place + len {
         if file[at] != 0 {
             return Err(AmvError::NonzeroByte(at as u64));
         }
-        i += 1;
     }
     Ok(())
 }
 
 // The stretches that a device leaves zero.
+#[tactic(auto, using(error::proofs::Answers::passed_on), unfolding(crate::specs::Prelude::zero_ranges))]
 fn require_zero_ranges(file: &[u8]) -> Result<(), AmvError>
     requires { prelude_len ≤ length file.now }
     ensures { said result ≡ zero_ranges file.now }
 {
-    let reserved = require_all_zero(file, 36, 28);
-    let Ok(()) = reserved else {
-        return reserved;
-    };
-    let video_strh = require_all_zero(file, 108, 56);
-    let Ok(()) = video_strh else {
-        return video_strh;
-    };
-    let video_strf = require_all_zero(file, 172, 36);
-    let Ok(()) = video_strf else {
-        return video_strf;
-    };
+    require_all_zero(file, 36, 28)?;
+    require_all_zero(file, 108, 56)?;
+    require_all_zero(file, 172, 36)?;
     require_all_zero(file, 228, 48)
 }
 
@@ -144,65 +124,48 @@ impl AmvPrelude {
 
     // The prelude of a file, for every reader. A file past the limit is refused with 10; then item by item in offset order 11 for one that
     // the file cuts off, 12 for another tag, 13 for another size, each at the item's start.
+    #[tactic(auto, using(error::proofs::Answers::passed_on), unfolding(crate::specs::Prelude::parse_of))]
     pub fn parse(file: &[u8]) -> Result<AmvPrelude, AmvError>
         ensures { said result ≡ parse_of file.now }
     {
         if !fields::file::within_limit(file) {
             return Err(AmvError::FileTooLong);
         }
-        match require_layout(file) {
-            Err(e) => Err(e),
-            Ok(()) => AmvPrelude::read(file),
-        }
+        require_layout(file)?;
+        AmvPrelude::read(file)
     }
 
     // The two bodies, of a file that has them.
+    #[tactic(auto, using(error::proofs::Answers::passed_on), unfolding(crate::specs::Prelude::prelude_fields))]
     fn read(file: &[u8]) -> Result<AmvPrelude, AmvError>
         requires { prelude_len ≤ length file.now }
         ensures { said result ≡ accepted (prelude_fields file.now) }
     {
-        let header = match AmvHeader::parse(&file[HEADER_START..HEADER_END]) {
-            Ok(header) => header,
-            Err(e) => return Err(e),
-        };
-        let audio_format = match AmvWaveFormat::parse(&file[WAVE_FORMAT_START..WAVE_FORMAT_END]) {
-            Ok(format) => format,
-            Err(e) => return Err(e),
-        };
         Ok(AmvPrelude {
-            header,
-            audio_format,
+            header: AmvHeader::parse(&file[HEADER_START..HEADER_END])?,
+            audio_format: AmvWaveFormat::parse(&file[WAVE_FORMAT_START..WAVE_FORMAT_END])?,
             movi_payload_start: AmvPrelude::LEN as u64,
         })
     }
 
     // The same, and whether it is what a device writes: after 10 to 13 the header's 14 to 17, then 18 at the first byte that is not zero, then
     // the wave format's 19 to 24.
+    #[tactic(auto, using(error::proofs::Answers::passed_on), unfolding(crate::specs::Prelude::strict_of))]
     pub fn parse_strict(file: &[u8]) -> Result<AmvPrelude, AmvError>
         ensures { said result ≡ strict_of file.now }
     {
-        match AmvPrelude::parse(file) {
-            Err(e) => Err(e),
-            Ok(prelude) => prelude.validated(file),
-        }
+        AmvPrelude::parse(file)?.validated(file)
     }
 
     // What parse_strict goes on to ask.
+    #[tactic(auto, using(error::proofs::Answers::passed_on), unfolding(crate::specs::Prelude::validated_of))]
     fn validated(self, file: &[u8]) -> Result<AmvPrelude, AmvError>
         requires { prelude_len ≤ length file.now }
         ensures { said result ≡ validated_of self file.now }
     {
-        let header = self.header;
-        if let Err(e) = header.validate_sentinels() {
-            return Err(e);
-        }
-        if let Err(e) = require_zero_ranges(file) {
-            return Err(e);
-        }
-        let audio_format = self.audio_format;
-        if let Err(e) = audio_format.validate_sentinels() {
-            return Err(e);
-        }
+        self.header.validate_sentinels()?;
+        require_zero_ranges(file)?;
+        self.audio_format.validate_sentinels()?;
         Ok(self)
     }
 }

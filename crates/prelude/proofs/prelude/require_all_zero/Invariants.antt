@@ -1,13 +1,9 @@
--- `prelude::prelude::require_all_zero` meets its contract. The invariant of its loop: asking the bytes from i on is asking all of them, and i is at most
--- the length. The measure is the length less i; `zeros_on` and `zeros-no` are a turn.
+-- `prelude::prelude::require_all_zero` meets its contract. The invariant of its loop: asking the bytes from a place on is asking all of them. `zeros_on`
+-- and `zeros-no` are a turn.
 -- Assumes nothing.
-use mathlib.Core.Path.{◌≡◌}
-use Prim.Native.Nat.{◌≤◌, ◌+◌, ◌-◌}
+use Rattle.std.proofs.Common.{◌≡◌, ◌+◌, ◌-◌}
 use Rattle.prelude.specs.Prelude.{zeros}
 use Rattle.prelude.proofs.prelude.require_all_zero.Given as goal
 
-abbrev pub invariant-loop-i : goal.invariant-loop-i
-invariant-loop-i l = (l.i ≤ l.len) × (zeros l.file (l.place + l.i) (l.len - l.i) ≡ zeros l.file l.place l.len)
-
-abbrev pub decreases-loop-i : goal.decreases-loop-i
-decreases-loop-i l = l.len - l.i
+abbrev pub invariant-loop-at : goal.invariant-loop-at
+invariant-loop-at l = zeros l.file l.at (l.place + l.len - l.at) ≡ zeros l.file l.place l.len
