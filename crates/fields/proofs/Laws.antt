@@ -9,8 +9,11 @@ use native.Mathlib.Numerals.{add-one}
 use native.Mathlib.Omega.{arith}
 use lib.Arith.{mod-mul}
 use lib.ListN.{length, get_or, set, length-set, take, drop, length-append, length-take, length-drop, take-append-drop, get_or-append, get_or-eq_default}
-use lib.Seq.{paste, paste-suc, take-length, length-take-le, drop-cons, set_split, get_or-append-add, get_or-drop, get_or-take, drop-append-add, drop-drop}
+use lib.Seq.{take-length, length-take-le, drop-cons, set_split, get_or-append-add, get_or-drop, get_or-take, drop-append-add, drop-drop}
 use lib.Seq.{drop_at, take_at, set_at, take-add, take-take, take-append-add, take-suc}
+use borrow.Rule.Slice.PartMut.{put_mid}
+use Rattle.std.specs.Int.{byte_at, bytes_low_first}
+use Rattle.std.proofs.lemmas.Slice.{put_mid-paste}
 use Rattle.fields.specs.Le.{le, le_bytes, put, put_le, Bytes}
 
 -- ---- reading
@@ -67,6 +70,10 @@ le-drop w n xs off =
 pub le-take : (w n : ℕ) (xs : List ℕ) (off : ℕ) → off + w ≤ n → le w (take n xs) off ≡ le w xs off
 le-take w n xs off h = le_ext w (take n xs) xs off off (λ k l. get_or-take n xs (off + k) 0 (omega arith))
 
+-- a field is what its own bytes spell
+pub le_part : (w n : ℕ) (xs : List ℕ) (off : ℕ) → w ≤ n → le w (take n (drop off xs)) 0 ≡ le w xs off
+le_part w n xs off h = le-take w n (drop off xs) 0 (omega arith) ∙ rw add-zero at (le-drop w off xs 0)
+
 -- ---- the bytes of a number
 
 pub length-le_bytes : (w v : ℕ) → length (le_bytes w v) ≡ w
@@ -92,6 +99,22 @@ le_bytes-le (suc w) xs off b h =
     let low : (get_or xs off 0 + 256 * le w xs (suc off)) % 256 ≡ get_or xs off 0 = omega (arith, b off) in
     let high : (get_or xs off 0 + 256 * le w xs (suc off)) / 256 ≡ le w xs (suc off) = omega (arith, b off) in
     rw (low, high, drop-cons xs off 0 (omega arith)) (ap (λ (l : List ℕ). get_or xs off 0 ∷ l) (le_bytes-le w xs (suc off) b (omega arith)))
+
+-- the library's bytes of a number, from any byte on
+low_first : (i w n : ℕ) → bytes_low_first i w n ≡ le_bytes w (n / 256 ^ i)
+unfolding le_bytes
+low_first i zero n = refl
+low_first i (suc w) n =
+    let high : n / 256 ^ i / 256 ≡ n / 256 ^ suc i = rw (pow-suc, div-div-eq-div-mul) in
+    rw (byte i, high) (ap (λ (l : List ℕ). n / 256 ^ i % 256 ∷ l) (low_first (suc i) w n))
+  where
+    byte : (i : ℕ) → byte_at i n ≡ n / 256 ^ i % 256
+    byte zero = rw div-one
+    byte (suc i) = refl
+
+-- all of them are these
+pub library_bytes : (w n : ℕ) → bytes_low_first 0 w n ≡ le_bytes w n
+library_bytes w n = rw div-one at (low_first 0 w n)
 
 pub le_bytes_split : (v w n : ℕ) → le_bytes (v + w) n ≡ le_bytes v n ++ le_bytes w (n / 256 ^ v)
 unfolding le_bytes
@@ -164,24 +187,11 @@ put-before xs off b ys h =
     rw (add-one off, n, take-suc xs off 0 (omega arith), append_assoc (take off xs) (get_or xs off 0 ∷ []) (ys ++ drop (suc off + length ys) xs))
     (set_at (take off xs) (get_or xs off 0) (ys ++ drop (suc off + length ys) xs) b off l)
 
--- a turn of the loop that copies
-pub copy_more : (xs : List ℕ) (off : ℕ) (src : List ℕ) (i : ℕ) {ys : List ℕ} → off + length src ≤ length xs → i < length src
-    → ys ≡ paste xs off src i → set ys (off + i) (get_or src i 0) ≡ paste xs off src (i + 1)
-copy_more xs off src i h l e = rw (add-one, e) (paste-suc xs off src i 0 (omega arith) l)
-
-pub copy_done : (xs : List ℕ) (off : ℕ) (src : List ℕ) (i : ℕ) → i ≡ length src → paste xs off src i ≡ put xs off src
+-- what stands there after a part of as many bytes was stored over
+pub part_put : (xs : List ℕ) (off k : ℕ) (ys : List ℕ) → length ys ≡ k → put_mid off k xs ys ≡ put xs off ys
 unfolding put
-copy_done xs off src i e = rw (e, take-length, append_assoc)
-
--- a turn of the loop that copies a part at a time; a part from i up to j is `take (j - i) (drop i src)`
-pub part_copied : (xs : List ℕ) (off : ℕ) (src : List ℕ) (i j : ℕ) {ys : List ℕ} → off + length src ≤ length xs → i ≤ j → j ≤ length src
-    → ys ≡ put xs off (take i src) → put ys (off + i) (take (j - i) (drop i src)) ≡ put xs off (take j src)
-part_copied xs off src i j h l m e =
-    let t : length (take i src) ≡ i = length-take-le i src (omega arith) in
-    let o : off + i ≡ off + length (take i src) = omega arith in
-    let n : i + (j - i) ≡ j = omega arith in
-    rw (e, o) (put-put xs off (take i src) (take (j - i) (drop i src)) (omega arith))
-    ∙ ap (put xs off) (sym (take-add i (j - i) src) ∙ ap (λ (k : ℕ). take k src) n)
+part_put xs off k ys e =
+    put_mid-paste off k xs ys ys k refl refl (sym e) ∙ rw (← e, take-length, append_assoc)
 
 -- numbers stored one after the other, from a number on
 unfoldable pub sets : List ℕ → ℕ → ℕ → List ℕ → List ℕ
