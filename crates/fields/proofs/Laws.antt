@@ -44,10 +44,6 @@ pub le_halves : (w : ℕ) (xs : List ℕ) (off : ℕ) {low high : ℕ} → low �
     → low + 256 ^ w * high ≡ le (w + w) xs off
 le_halves w xs off p q = rw (p, q, le_split)
 
-pub le-one : (xs : List ℕ) (off : ℕ) → le 1 xs off ≡ get_or xs off 0
-unfolding le
-le-one xs off = omega arith
-
 -- w bytes make a number below 256 ^ w
 pub le-lt : (w : ℕ) (xs : List ℕ) (off : ℕ) → Bytes xs → le w xs off < 256 ^ w
 unfolding le Bytes
@@ -141,11 +137,6 @@ length-put xs off ys h = simp (length-append, length-take, length-drop) (omega a
 pub put_one : (xs : List ℕ) (off b : ℕ) → off < length xs → set xs off b ≡ put xs off (b ∷ [])
 unfolding put
 put_one xs off b h = rw add-one (set_split xs off b h)
-
--- a byte stored is a field of width 1
-pub put_le-one : (xs : List ℕ) (off v : ℕ) → off < length xs → set xs off (v % 256) ≡ put_le 1 xs off v
-unfolding le_bytes
-put_le-one xs off v h = put_one xs off (v % 256) h
 
 -- two writes, the second right after the first, are one
 pub put-put : (xs : List ℕ) (off : ℕ) (ys zs : List ℕ) → off + length ys ≤ length xs

@@ -1,4 +1,3 @@
 pub mod Laws
 pub mod Signed
-pub mod Products
 pub mod Impossible

@@ -1,5 +1,5 @@
-// Little-endian fields of a byte slice at an offset, and what the format divides by. A reader or writer of a field asks that its
-// bytes are there: whoever calls it has tested that already, and it compiles to one load or one store.
+// Little-endian fields of a byte slice at an offset, a copy to an offset, and a quotient that is 0 for a divisor of 0. A reader or writer
+// of a field asks that its bytes are there: whoever calls it has tested that already, and it compiles to one load or one store.
 #![tactic(auto)]
 
 pub mod file;
@@ -8,7 +8,7 @@ ghost use Rattle.std.specs.Prelude.{◌≡◌, ℕ, ◌+◌, ◌≤◌, length};
 ghost use Rattle.fields.specs.Capped.{quotient};
 ghost use Rattle.fields.specs.Le.{le, le_bytes, put, put_le};
 
-// A number that the format stores in so many bytes, the lowest first.
+// A number that the format stores in so many bytes, the lowest first. Each type says how; `read_le` and `write_le` say where.
 pub trait LittleEndian {
     // How many bytes it has.
     const WIDTH: usize;
@@ -19,17 +19,17 @@ pub trait LittleEndian {
     ghost number: { Self → ℕ };
 
     // The number that the bytes spell. Refuses nothing: there must be as many as it has.
-    fn from_le(bytes: &[u8]) -> Self
+    fn load(bytes: &[u8]) -> Self
         requires { length bytes.now ≡ WIDTH }
         ensures { number result ≡ le WIDTH bytes.now 0 };
 
     // Stores its bytes over others. Refuses nothing: there must be as many as it has.
-    fn to_le(self, bytes: &mut [u8])
+    fn store(self, bytes: &mut [u8])
         requires { length bytes.old ≡ WIDTH }
         ensures { bytes.new ≡ le_bytes WIDTH (number self) };
 }
 
-// Flags and the numbers of a wave format.
+// Most numbers of a wave format.
 impl LittleEndian for u16 {
     const WIDTH: usize = 2;
 
@@ -37,11 +37,11 @@ impl LittleEndian for u16 {
 
     ghost number = { λ n. n };
 
-    fn from_le(bytes: &[u8]) -> u16 {
+    fn load(bytes: &[u8]) -> u16 {
         u16::from_le_bytes([bytes[0], bytes[1]])
     }
 
-    fn to_le(self, bytes: &mut [u8]) {
+    fn store(self, bytes: &mut [u8]) {
         bytes.copy_from_slice(&u16::to_le_bytes(self));
     }
 }
@@ -54,11 +54,11 @@ impl LittleEndian for u32 {
 
     ghost number = { λ n. n };
 
-    fn from_le(bytes: &[u8]) -> u32 {
+    fn load(bytes: &[u8]) -> u32 {
         u32::from_le_bytes([bytes[0], bytes[1], bytes[2], bytes[3]])
     }
 
-    fn to_le(self, bytes: &mut [u8]) {
+    fn store(self, bytes: &mut [u8]) {
         bytes.copy_from_slice(&u32::to_le_bytes(self));
     }
 }
@@ -71,13 +71,13 @@ impl LittleEndian for u64 {
 
     ghost number = { λ n. n };
 
-    fn from_le(bytes: &[u8]) -> u64 {
+    fn load(bytes: &[u8]) -> u64 {
         u64::from_le_bytes([
             bytes[0], bytes[1], bytes[2], bytes[3], bytes[4], bytes[5], bytes[6], bytes[7],
         ])
     }
 
-    fn to_le(self, bytes: &mut [u8]) {
+    fn store(self, bytes: &mut [u8]) {
         bytes.copy_from_slice(&u64::to_le_bytes(self));
     }
 }
@@ -87,7 +87,7 @@ pub fn read_le<T: LittleEndian>(buf: &[u8], off: usize) -> T
     requires { off + T.WIDTH ≤ length buf.now }
     ensures { T.number result ≡ le T.WIDTH buf.now off }
 {
-    T::from_le(&buf[off..off + T::WIDTH])
+    T::load(&buf[off..off + T::WIDTH])
 }
 
 // Stores a field at an offset and changes no other byte. Refuses nothing: there must be room.
@@ -95,7 +95,7 @@ pub fn write_le<T: LittleEndian>(buf: &mut [u8], off: usize, v: T)
     requires { off + T.WIDTH ≤ length buf.old }
     ensures { buf.new ≡ put_le T.WIDTH buf.old off (T.number v) }
 {
-    v.to_le(&mut buf[off..off + T::WIDTH]);
+    v.store(&mut buf[off..off + T::WIDTH]);
 }
 
 // The quotient, 0 where the divisor is 0, so that fps 0 needs no case of its own. Refuses nothing.

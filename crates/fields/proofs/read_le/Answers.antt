@@ -8,5 +8,5 @@ use Rattle.fields.proofs.read_le.Goals as goal
 pub returns : goal.returns
 returns g c =
     let a = c.args in
-    c.from_le.ensures
+    c.load.ensures
     ∙ le_part g.T.LittleEndian.WIDTH (a.off + c.WIDTH.result - a.off) a.buf.now a.off (omega (arith, c.WIDTH.ensures))

@@ -8,5 +8,5 @@ use Rattle.fields.proofs.write_le.Goals as goal
 pub returns : goal.returns
 returns g c =
     let a = c.args in
-    part_put _ _ _ _ (rw c.to_le.ensures (omega (arith, c.WIDTH.ensures, length-le_bytes g.T.LittleEndian.WIDTH (g.T.LittleEndian.number a.v))))
-    ∙ ap (put a.buf.now a.off) c.to_le.ensures
+    part_put _ _ _ _ (rw c.store.ensures (omega (arith, c.WIDTH.ensures, length-le_bytes g.T.LittleEndian.WIDTH (g.T.LittleEndian.number a.v))))
+    ∙ ap (put a.buf.now a.off) c.store.ensures
