@@ -1,29 +1,21 @@
--- Two run lengths compared part by part, by the cases of the three tests, and the packed form: read back, and within its field, by arithmetic. Assumes
--- nothing.
+-- Two run lengths compared part by part, by the cases of the three tests, and their grade; the packed form read back, and within its field, by
+-- arithmetic. Assumes nothing.
 use mathlib.Core.Path.{◌≡◌, refl}
 use mathlib.Core.Bool.{Bool, true, false, ◌&&◌}
 use Prim.Native.Nat.{ℕ, ◌+◌, ◌*◌, ◌/◌, ◌%◌, ◌^◌, ◌<◌}
 use native.Mathlib.Omega.{arith}
 use lib.Dec.{eqb}
-use borrow.Author.Tests.{eq-eqb, eqb-true}
+use borrow.Author.Tests.{eqb-true}
 use Rattle.fields.specs.Le.{le, le_bytes}
 use Rattle.fields.proofs.Impossible.{impossible}
 use Rattle.duration.specs.Duration.{packed_of, unpacked_of, total_seconds, same_duration, consistency}
 use Rattle.duration.specs.declared.AmvDuration.{AmvDuration}
-use Rattle.duration.specs.declared.DurationConsistency.TheVariants.{Exact, TruncatedByOneSecond, Mismatch}
+use Rattle.duration.specs.declared.DurationConsistency.TheVariants.{Mismatch}
 
-module _ (a b : AmvDuration) where
-  pub same_hours : a.seconds ≡ b.seconds → a.minutes ≡ b.minutes → same_duration a b ≡ eqb a.hours b.hours
-  same_hours s m = simp (eq-eqb _ _ s, eq-eqb _ _ m)
-
-  pub graded_exact : same_duration a b ≡ true → consistency a b ≡ Exact
-  graded_exact s = simp s
-
-  pub graded_truncated : same_duration a b ≡ false → eqb (total_seconds a + 1) (total_seconds b) ≡ true → consistency a b ≡ TruncatedByOneSecond
-  graded_truncated s t = simp (s, t)
-
-  pub graded_mismatch : same_duration a b ≡ false → eqb (total_seconds a + 1) (total_seconds b) ≡ false → consistency a b ≡ Mismatch
-  graded_mismatch s t = simp (s, t)
+-- two that differ, by other seconds than the truncated ones, are graded so
+pub graded_mismatch : (a b : AmvDuration) → same_duration a b ≡ false → eqb (total_seconds a + 1) (total_seconds b) ≡ false
+    → consistency a b ≡ Mismatch
+graded_mismatch a b s t = simp (s, t)
 
 -- the test finds exactly the equal ones
 pub same-equal : (a b : AmvDuration) → same_duration a b ≡ true → a ≡ b

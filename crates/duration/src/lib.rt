@@ -4,8 +4,8 @@
 ghost use Rattle.std.specs.Prelude.{◌≡◌};
 ghost use Rattle.duration.specs.Duration.{unpacked_of, packed_of, total_seconds, run_length, same_duration, consistency, device_conformant};
 
-// A run length as the file has it.
-#[derive(Clone, Copy)]
+// A run length as the file has it. Two are equal where all three parts are.
+#[derive(Clone, Copy, Debug, PartialEq, Eq)]
 pub struct AmvDuration {
     pub seconds: u8,
     pub minutes: u8,
@@ -13,7 +13,7 @@ pub struct AmvDuration {
 }
 
 // How a header's run length relates to the one that a frame count gives.
-#[derive(Clone, Copy)]
+#[derive(Clone, Copy, Debug, PartialEq, Eq)]
 pub enum DurationConsistency {
     Exact,
     // One second less, as some devices write it.
@@ -29,10 +29,11 @@ impl AmvDuration {
     pub fn from_packed(packed: u32) -> AmvDuration
         ensures { result ≡ unpacked_of packed }
     {
+        let [seconds, minutes, hours, _] = packed.to_le_bytes();
         AmvDuration {
-            seconds: (packed % 256) as u8,
-            minutes: (packed / 256 % 256) as u8,
-            hours: (packed / 65536 % 256) as u8,
+            seconds,
+            minutes,
+            hours,
         }
     }
 
@@ -40,7 +41,7 @@ impl AmvDuration {
     pub fn to_packed(self) -> u32
         ensures { result ≡ packed_of self }
     {
-        (self.seconds as u32) + 256 * (self.minutes as u32) + 65536 * (self.hours as u32)
+        u32::from_le_bytes([self.seconds, self.minutes, self.hours, 0])
     }
 
     // The run length in seconds. Refuses nothing.
@@ -55,14 +56,8 @@ impl AmvDuration {
     pub fn from_frame_count(frame_count: u64, fps: u32) -> AmvDuration
         ensures { result ≡ run_length frame_count fps }
     {
-        if fps == 0 {
-            return AmvDuration {
-                seconds: 0,
-                minutes: 0,
-                hours: 0,
-            };
-        }
-        let total_seconds = fields::min(frame_count / (fps as u64), AmvDuration::MAX_SECONDS);
+        let whole_seconds = frame_count.checked_div(fps as u64).unwrap_or(0);
+        let total_seconds = whole_seconds.min(AmvDuration::MAX_SECONDS);
         let hours = total_seconds / 3600;
         let after_hours = total_seconds - 3600 * hours;
         AmvDuration {
@@ -72,24 +67,11 @@ impl AmvDuration {
         }
     }
 
-    // Whether all three parts are equal.
-    fn equals(self, other: AmvDuration) -> bool
-        ensures { result ≡ same_duration self other }
-    {
-        if self.seconds != other.seconds {
-            return false;
-        }
-        if self.minutes != other.minutes {
-            return false;
-        }
-        self.hours == other.hours
-    }
-
     // Whether this is the run length of so many frames, as `from_frame_count` has it. Refuses nothing.
     pub fn is_consistent_with_frame_count(self, frame_count: u64, fps: u32) -> bool
         ensures { result ≡ same_duration self (run_length frame_count fps) }
     {
-        self.equals(AmvDuration::from_frame_count(frame_count, fps))
+        self == AmvDuration::from_frame_count(frame_count, fps)
     }
 
     // The same as a grade, since some devices write one second less. What the original's rule gives above `MAX_SECONDS` is a mismatch. Refuses
@@ -98,7 +80,7 @@ impl AmvDuration {
         ensures { result ≡ consistency self (run_length frame_count fps) }
     {
         let derived = AmvDuration::from_frame_count(frame_count, fps);
-        if self.equals(derived) {
+        if self == derived {
             return DurationConsistency::Exact;
         }
         if self.total_seconds() + 1 == derived.total_seconds() {
@@ -113,10 +95,6 @@ impl DurationConsistency {
     pub fn is_device_conformant(self) -> bool
         ensures { result ≡ device_conformant self }
     {
-        match self {
-            DurationConsistency::Exact => true,
-            DurationConsistency::TruncatedByOneSecond => true,
-            DurationConsistency::Mismatch => false,
-        }
+        self != DurationConsistency::Mismatch
     }
 }

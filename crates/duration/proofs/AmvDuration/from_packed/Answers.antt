@@ -1,15 +1,15 @@
--- `duration::AmvDuration::from_packed` meets its contract. The quotients by 256 and 65536, modulo 256, are the second and third byte of the packed number;
--- only the third needs arithmetic.
--- Assumes nothing.
-use mathlib.Core.Path.{◌≡◌}
-use Prim.Native.Nat.{◌%◌, ◌/◌}
-use Rattle.fields.specs.Le.{le_bytes}
+-- `duration::AmvDuration::from_packed` meets its contract: the library's bytes of a number are `le_bytes` (`library_bytes`). Assumes nothing.
+use mathlib.Core.List.{List}
+use mathlib.Core.Path.{ap, ◌∙◌}
+use Prim.Native.Nat.{ℕ}
+use lib.ListN.{get_or}
+use Rattle.fields.proofs.Laws.{library_bytes}
 use Rattle.duration.specs.Duration.{unpacked_of}
-use native.Mathlib.Omega.{arith}
+use Rattle.duration.specs.declared.AmvDuration.{AmvDuration}
 use Rattle.duration.proofs.AmvDuration.from_packed.Goals as goal
 
 pub returns : goal.returns
-unfolding unpacked_of le_bytes
-returns c = let p = c.args.packed in
-    let h : p / 65536 % 256 ≡ p / 256 / 256 % 256 = omega arith in
-    λ i. record { seconds = p % 256; minutes = p / 256 % 256; hours = h i }
+unfolding unpacked_of
+returns c =
+    let parts : List ℕ → AmvDuration = λ bytes. record { seconds = get_or bytes 0 0; minutes = get_or bytes 1 0; hours = get_or bytes 2 0 } in
+    ap parts (c.to_le_bytes.ensures ∙ library_bytes 4 c.args.packed)
