@@ -16,7 +16,7 @@ pub const VIDEO_CHUNK_TAG: u32 = 0x63643030; // 00dc
 pub const AUDIO_CHUNK_TAG: u32 = 0x62773130; // 01wb
 
 // The longest payload: a length is a u32.
-pub const PAYLOAD_LIMIT: usize = fields::U32_MAX as usize;
+pub const PAYLOAD_LIMIT: usize = u32::MAX as usize;
 
 // What a tag says of its chunk; any tag but the two is kept.
 #[derive(Clone, Copy, Debug, PartialEq, Eq)]
@@ -96,8 +96,8 @@ impl ChunkHeader {
         if file.len() - 8 < at {
             return Err(AmvError::ChunkHeaderTooShort);
         }
-        let tag = fields::read_u32_le(file, at);
-        let size = fields::read_u32_le(file, at + 4);
+        let tag = fields::read_le::<u32>(file, at);
+        let size = fields::read_le::<u32>(file, at + 4);
         Ok(ChunkHeader { tag, size })
     }
 

@@ -22,11 +22,11 @@ impl ChunkIndexEntry {
         requires { at + entry_len ≤ length table.now }
         ensures { result ≡ entry_at table.now at }
     {
-        let tag = fields::read_u32_le(table, at);
-        let cursor = fields::read_u32_le(table, at + 4) as u64;
-        let frames = fields::read_u32_le(table, at + 8) as u64;
-        let blocks = fields::read_u32_le(table, at + 12) as u64;
-        let samples = fields::read_u64_le(table, at + 16);
+        let tag = fields::read_le::<u32>(table, at);
+        let cursor = fields::read_le::<u32>(table, at + 4) as u64;
+        let frames = fields::read_le::<u32>(table, at + 8) as u64;
+        let blocks = fields::read_le::<u32>(table, at + 12) as u64;
+        let samples = fields::read_le::<u64>(table, at + 16);
         let position = Position {
             cursor,
             frames: FrameStamp(frames),
@@ -43,10 +43,10 @@ impl ChunkIndexEntry {
         ensures { table.new ≡ put table.old at (entry_bytes self) }
     {
         let position = self.position;
-        fields::write_u32_le(table, at, self.tag);
-        fields::write_u32_le(table, at + 4, position.cursor as u32);
-        fields::write_u32_le(table, at + 8, position.frames.0 as u32);
-        fields::write_u32_le(table, at + 12, position.blocks.0 as u32);
-        fields::write_u64_le(table, at + 16, position.samples.0);
+        fields::write_le::<u32>(table, at, self.tag);
+        fields::write_le::<u32>(table, at + 4, position.cursor as u32);
+        fields::write_le::<u32>(table, at + 8, position.frames.0 as u32);
+        fields::write_le::<u32>(table, at + 12, position.blocks.0 as u32);
+        fields::write_le::<u64>(table, at + 16, position.samples.0);
     }
 }

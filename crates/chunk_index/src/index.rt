@@ -23,7 +23,7 @@ fn recorded(chunk: ChunkAt) -> bool
     let kind = chunk.kind;
     match kind {
         Kind::Frame => true,
-        Kind::Sound => fields::min(8, chunk.size as u64) + chunk.missing as u64
+        Kind::Sound => 8_u64.min(chunk.size as u64) + chunk.missing as u64
             <= chunk.size as u64,
     }
 }

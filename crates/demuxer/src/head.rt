@@ -84,7 +84,7 @@ pub fn sample_count(file: &[u8], start: usize, size: u32) -> u32
     if file.len() < start {
         return 0;
     }
-    let there = fields::min((file.len() - start) as u64, size as u64) as usize;
+    let there = ((file.len() - start) as u64).min(size as u64) as usize;
     let end = start + there;
     match AmvAudioPreamble::parse(&file[start..end]) {
         Ok(preamble) => preamble.decoded_sample_count,

@@ -55,7 +55,7 @@ pub struct Wrote {
 fn has_room(room: usize, off: u64, len: u64) -> bool
     ensures { result ≡ fits (off + len) room }
 {
-    let limit = fields::min(room as u64, FILE_LIMIT);
+    let limit = (room as u64).min(FILE_LIMIT);
     if limit < off {
         return false;
     }
@@ -86,7 +86,7 @@ fn frames_after(stream: u32, frames: u64) -> u64
     ensures { result ≡ frames_after stream frames }
 {
     if stream == 0 {
-        fields::min(frames, FRAME_LIMIT - 1) + 1
+        frames.min(FRAME_LIMIT - 1) + 1
     } else {
         frames
     }
@@ -98,8 +98,8 @@ fn put_packet(buf: &mut [u8], off: usize, payload: &[u8], stream: u32)
     requires payload_len_bound { length payload.now ≤ payload_limit }
     ensures { buf.new ≡ put buf.old off (packet_bytes stream payload.now) }
 {
-    fields::write_u32_le(buf, off, chunk::stream_tag(stream));
-    fields::write_u32_le(buf, off + 4, payload_size(payload));
+    fields::write_le::<u32>(buf, off, chunk::stream_tag(stream));
+    fields::write_le::<u32>(buf, off + 4, payload_size(payload));
     fields::copy_in(buf, off + 8, payload);
 }
 
@@ -291,7 +291,7 @@ impl Writer {
             return;
         }
         let run_length = AmvDuration::from_frame_count(self.frames, fps);
-        fields::write_u32_le(buf, 84, run_length.to_packed());
+        fields::write_le::<u32>(buf, 84, run_length.to_packed());
     }
 
     // Writes the prelude at the buffer's start. Refused in this order, with state and buffer as they were: begun already 50, ended 55, no room

@@ -47,13 +47,13 @@ impl AmvHeader {
             return Err(AmvError::HeaderTooShort);
         }
         let header = AmvHeader {
-            micros_per_frame: fields::read_u32_le(body, 0),
-            width: fields::read_u32_le(body, 32),
-            height: fields::read_u32_le(body, 36),
-            fps: fields::read_u32_le(body, 40),
-            flag_one: fields::read_u32_le(body, 44),
-            reserved_30: fields::read_u32_le(body, 48),
-            duration_packed: fields::read_u32_le(body, 52),
+            micros_per_frame: fields::read_le::<u32>(body, 0),
+            width: fields::read_le::<u32>(body, 32),
+            height: fields::read_le::<u32>(body, 36),
+            fps: fields::read_le::<u32>(body, 40),
+            flag_one: fields::read_le::<u32>(body, 44),
+            reserved_30: fields::read_le::<u32>(body, 48),
+            duration_packed: fields::read_le::<u32>(body, 52),
         };
         Ok(header)
     }

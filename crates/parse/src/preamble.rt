@@ -30,8 +30,8 @@ impl AmvAudioPreamble {
         if body.len() < 8 {
             return Err(AmvError::PreambleTooShort);
         }
-        let state = fields::read_u32_le(body, 0);
-        let decoded_sample_count = fields::read_u32_le(body, 4);
+        let state = fields::read_le::<u32>(body, 0);
+        let decoded_sample_count = fields::read_le::<u32>(body, 4);
         Ok(AmvAudioPreamble {
             state,
             decoded_sample_count,

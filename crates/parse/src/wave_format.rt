@@ -26,7 +26,7 @@ fn cb_size(body: &[u8]) -> u16
     if body.len() < AmvWaveFormat::LEN {
         0
     } else {
-        fields::read_u16_le(body, 16)
+        fields::read_le::<u16>(body, 16)
     }
 }
 
@@ -45,7 +45,7 @@ impl AmvWaveFormat {
             format_tag: 1,
             channels: 1,
             samples_per_sec,
-            avg_bytes_per_sec: fields::saturating_mul(samples_per_sec, 2),
+            avg_bytes_per_sec: samples_per_sec.saturating_mul(2),
             block_align: 2,
             bits_per_sample: 16,
             cb_size: 0,
@@ -61,12 +61,12 @@ impl AmvWaveFormat {
             return Err(AmvError::WaveFormatTooShort);
         }
         let format = AmvWaveFormat {
-            format_tag: fields::read_u16_le(body, 0),
-            channels: fields::read_u16_le(body, 2),
-            samples_per_sec: fields::read_u32_le(body, 4),
-            avg_bytes_per_sec: fields::read_u32_le(body, 8),
-            block_align: fields::read_u16_le(body, 12),
-            bits_per_sample: fields::read_u16_le(body, 14),
+            format_tag: fields::read_le::<u16>(body, 0),
+            channels: fields::read_le::<u16>(body, 2),
+            samples_per_sec: fields::read_le::<u32>(body, 4),
+            avg_bytes_per_sec: fields::read_le::<u32>(body, 8),
+            block_align: fields::read_le::<u16>(body, 12),
+            bits_per_sample: fields::read_le::<u16>(body, 14),
             cb_size: cb_size(body),
         };
         Ok(format)
@@ -91,7 +91,7 @@ impl AmvWaveFormat {
         if self.channels != 1 {
             return Err(AmvError::WrongChannels);
         }
-        if self.avg_bytes_per_sec != fields::saturating_mul(self.samples_per_sec, 2) {
+        if self.avg_bytes_per_sec != self.samples_per_sec.saturating_mul(2) {
             return Err(AmvError::WrongAverage);
         }
         if self.block_align != 2 {

@@ -24,8 +24,8 @@ fn write_item(bytes: &mut [u8; AmvPrelude::LEN], item: LayoutItem)
     ensures { bytes.new ≡ write_item bytes.old item }
 {
     match item {
-        LayoutItem::Tag(place, value) => fields::write_u32_le(bytes, place, value),
-        LayoutItem::Size(place, value) => fields::write_u32_le(bytes, place, value),
+        LayoutItem::Tag(place, value) => fields::write_le::<u32>(bytes, place, value),
+        LayoutItem::Size(place, value) => fields::write_le::<u32>(bytes, place, value),
         LayoutItem::Body(_, _) => {}
     }
 }
@@ -50,12 +50,12 @@ fn write_header_body(
 )
     ensures { bytes.new ≡ header_stores bytes.old width height fps duration_packed }
 {
-    fields::write_u32_le(bytes, 32, fields::quotient(1000000, fps));
-    fields::write_u32_le(bytes, 64, width);
-    fields::write_u32_le(bytes, 68, height);
-    fields::write_u32_le(bytes, 72, fps);
-    fields::write_u32_le(bytes, 76, 1);
-    fields::write_u32_le(bytes, 84, duration_packed);
+    fields::write_le::<u32>(bytes, 32, fields::quotient(1000000, fps));
+    fields::write_le::<u32>(bytes, 64, width);
+    fields::write_le::<u32>(bytes, 68, height);
+    fields::write_le::<u32>(bytes, 72, fps);
+    fields::write_le::<u32>(bytes, 76, 1);
+    fields::write_le::<u32>(bytes, 84, duration_packed);
 }
 
 // The fields of the sound format that are not zero.
@@ -63,12 +63,12 @@ fn write_header_body(
 fn write_wave_format(bytes: &mut [u8; AmvPrelude::LEN], rate: u32, channels: u16)
     ensures { bytes.new ≡ wave_format_stores bytes.old rate channels }
 {
-    fields::write_u16_le(bytes, 284, 1);
-    fields::write_u16_le(bytes, 286, channels);
-    fields::write_u32_le(bytes, 288, rate);
-    fields::write_u32_le(bytes, 292, fields::saturating_mul(rate, 2));
-    fields::write_u16_le(bytes, 296, 2);
-    fields::write_u16_le(bytes, 298, 16);
+    fields::write_le::<u16>(bytes, 284, 1);
+    fields::write_le::<u16>(bytes, 286, channels);
+    fields::write_le::<u32>(bytes, 288, rate);
+    fields::write_le::<u32>(bytes, 292, rate.saturating_mul(2));
+    fields::write_le::<u16>(bytes, 296, 2);
+    fields::write_le::<u16>(bytes, 298, 16);
 }
 
 // The prelude of a new file with these settings, the first bytes of what the writer writes. Refuses nothing: any settings are built, and

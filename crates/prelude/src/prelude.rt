@@ -40,7 +40,7 @@ fn require_word(file: &[u8], place: usize, expected: u32, wrong: AmvError) -> Re
     ensures { said result ≡ ask_word file.now place expected (refusal_of wrong) }
 {
     if reaches(file, place, 4) {
-        if fields::read_u32_le(file, place) == expected {
+        if fields::read_le::<u32>(file, place) == expected {
             Ok(())
         } else {
             Err(wrong)

@@ -137,7 +137,7 @@ pub fn command_in(block: &[u8]) -> Result<Command, AmvError>
     if command == Registers::READ {
         return Ok(Command::Read);
     }
-    let request = fields::read_u64_le(block, Registers::REQUEST);
+    let request = fields::read_le::<u64>(block, Registers::REQUEST);
     if command == Registers::SEEK_PICTURE {
         return Ok(Command::Seek(0, request));
     }
@@ -278,8 +278,8 @@ fn put_stamp(block: &mut [u8], told: Told)
 {
     match told {
         Told::Nothing => {}
-        Told::Gave(stamp) => fields::write_u64_le(block, Registers::REQUEST, stamp),
-        Told::Went(stamp) => fields::write_u64_le(block, Registers::REQUEST, stamp),
+        Told::Gave(stamp) => fields::write_le::<u64>(block, Registers::REQUEST, stamp),
+        Told::Went(stamp) => fields::write_le::<u64>(block, Registers::REQUEST, stamp),
         Told::Refused(_) => {}
     }
 }

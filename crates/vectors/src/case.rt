@@ -94,8 +94,8 @@ pub fn case_at(input: &[u8], at: usize) -> Option<Case>
     }
     let first = at + HEAD_LEN;
     let room = (input.len() - first) as u64;
-    let first_len = fields::read_u64_le(input, at + 1);
-    let second_len = fields::read_u64_le(input, at + 9);
+    let first_len = fields::read_le::<u64>(input, at + 1);
+    let second_len = fields::read_le::<u64>(input, at + 9);
     if room < first_len {
         return None;
     }
@@ -116,17 +116,17 @@ pub fn head_of(input: &[u8], at: usize) -> [u64; 12]
     ensures { result ≡ head_of input.now at }
 {
     [
-        fields::read_u64_le(input, at + 17),
-        fields::read_u64_le(input, at + 25),
-        fields::read_u64_le(input, at + 33),
-        fields::read_u64_le(input, at + 41),
-        fields::read_u64_le(input, at + 49),
-        fields::read_u64_le(input, at + 57),
-        fields::read_u64_le(input, at + 65),
-        fields::read_u64_le(input, at + 73),
-        fields::read_u64_le(input, at + 81),
-        fields::read_u64_le(input, at + 89),
-        fields::read_u64_le(input, at + 97),
-        fields::read_u64_le(input, at + 105),
+        fields::read_le::<u64>(input, at + 17),
+        fields::read_le::<u64>(input, at + 25),
+        fields::read_le::<u64>(input, at + 33),
+        fields::read_le::<u64>(input, at + 41),
+        fields::read_le::<u64>(input, at + 49),
+        fields::read_le::<u64>(input, at + 57),
+        fields::read_le::<u64>(input, at + 65),
+        fields::read_le::<u64>(input, at + 73),
+        fields::read_le::<u64>(input, at + 81),
+        fields::read_le::<u64>(input, at + 89),
+        fields::read_le::<u64>(input, at + 97),
+        fields::read_le::<u64>(input, at + 105),
     ]
 }

@@ -28,7 +28,7 @@ const KEPT: i16 = 77;
 fn least(a: usize, b: usize) -> usize
     ensures { result ≡ min a b }
 {
-    fields::min(a as u64, b as u64) as usize
+    a.min(b)
 }
 
 // A case's bytes at the front of an array, as many as it has room for.
@@ -104,7 +104,7 @@ fn load_tags(to: &mut [u32], bytes: &[u8]) -> usize
     let count = least(to.len(), bytes.len() / 4);
     let mut i: usize = 0;
     while i < count {
-        to[i] = fields::read_u32_le(bytes, 4 * i);
+        to[i] = fields::read_le::<u32>(bytes, 4 * i);
         i += 1;
     }
     count

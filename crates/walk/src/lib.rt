@@ -65,7 +65,7 @@ fn chunk_at(file: &[u8], at: usize, kind: Kind, size: u32) -> ChunkAt
     requires { at + 8 ≤ length file.now }
     ensures { result ≡ chunk_at file.now at kind size }
 {
-    let there = fields::min((file.len() - (at + 8)) as u64, size as u64) as u32;
+    let there = ((file.len() - (at + 8)) as u64).min(size as u64) as u32;
     ChunkAt {
         kind,
         size,

@@ -6,7 +6,7 @@ use crate::walker::mark_word;
 use muxer::{Settings, Writer};
 
 // The largest number that a 32-bit setting holds.
-const LARGEST: u64 = fields::U32_MAX as u64;
+const LARGEST: u64 = u32::MAX as u64;
 
 // The writer that nine words spell. Illegal where a word is over its field's range, so that no cast loses bits.
 pub fn writer_of(words: [u64; 9]) -> Option<Writer>

@@ -13,6 +13,6 @@ returns c = let s = c in
     let tag = c in
     let size = c in
     steps.put-packet a.buf.now a.off a.stream a.payload.now s.requires.payload_in_bounds
-    (tag.write_u32_le.ensures ∙ ap (λ (v : ℕ). put_le 4 a.buf.now a.off v) tag.stream_tag.ensures)
-    (size.write_u32_le-2.ensures ∙ ap (λ (v : ℕ). put_le 4 tag.write_u32_le.new.buf (a.off + 4) v) size.payload_size.ensures)
+    (tag.write_le.ensures ∙ ap (λ (v : ℕ). put_le 4 a.buf.now a.off v) tag.stream_tag.ensures)
+    (size.write_le-2.ensures ∙ ap (λ (v : ℕ). put_le 4 tag.write_le.new.buf (a.off + 4) v) size.payload_size.ensures)
     c.copy_in.ensures

@@ -31,7 +31,7 @@ returns-then-command-eq-READ c =
 pub returns-then-command-eq-SEEK_PICTURE : goal.returns-then-command-eq-SEEK_PICTURE
 unfolding commanded
 returns-then-command-eq-SEEK_PICTURE c =
-    ap (λ (n : ℕ). accepted (Some (seek 0 (to_z w64 n)))) c.read_u64_le-request.ensures
+    ap (λ (n : ℕ). accepted (Some (seek 0 (to_z w64 n)))) c.read_le-request.ensures
     ∙ sym (known-command c.args.block.now 2 c.if-block-ne-LEN.false c.if-command-eq-SEEK_PICTURE.true (omega arith))
 
 pub returns : goal.returns
@@ -39,5 +39,5 @@ unfolding commanded
 returns c =
     let block = c.args.block.now in
     let three : byte block 0 ≡ 3 = omega (arith, c.if-command-gt-SEEK_SOUND.false, c.if-command-eq-NONE.false, c.if-command-eq-READ.false, c.if-command-eq-SEEK_PICTURE.false) in
-    ap (λ (n : ℕ). accepted (Some (seek 1 (to_z w64 n)))) c.read_u64_le-request.ensures
+    ap (λ (n : ℕ). accepted (Some (seek 1 (to_z w64 n)))) c.read_le-request.ensures
     ∙ sym (known-command block 3 c.if-block-ne-LEN.false three (omega arith))

@@ -9,11 +9,11 @@ returns-in-Gave c =
     let w = c in
     let t = w in
     let block = t.args.block.now in
-    w.write_u64_le.ensures ∙ sym (ap (λ t. stamped_by t block) t.in-Gave.is)
+    w.write_le.ensures ∙ sym (ap (λ t. stamped_by t block) t.in-Gave.is)
 
 pub returns-in-Went : goal.returns-in-Went
 returns-in-Went c =
     let w = c in
     let t = w in
     let block = t.args.block.now in
-    w.write_u64_le-in-Went.ensures ∙ sym (ap (λ t. stamped_by t block) t.in-Went.is)
+    w.write_le-in-Went.ensures ∙ sym (ap (λ t. stamped_by t block) t.in-Went.is)

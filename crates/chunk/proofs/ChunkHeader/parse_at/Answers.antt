@@ -15,4 +15,4 @@ returns-then-file-at c = let a = c.args in sym (header_out a.file.now a.at (omeg
 pub returns : goal.returns
 returns c =
     let a = c.args in
-    sym (header-there a.file.now a.at (omega arith) c.read_u32_le-tag.ensures c.read_u32_le-size.ensures)
+    sym (header-there a.file.now a.at (omega arith) c.read_le-tag.ensures c.read_le-size.ensures)

@@ -23,4 +23,4 @@ unfolding patch_run_length
 returns c = let s = c.args.self in
     let packed = c.to_packed.ensures ∙ ap packed_of c.from_frame_count-run_length.ensures in
     rw (lt-ltb 0 s.settings.fps (omega arith), lt-ltb 0 s.frames (omega arith))
-    (c.write_u32_le.ensures ∙ ap (put_le 4 _ 84) packed)
+    (c.write_le.ensures ∙ ap (put_le 4 _ 84) packed)

@@ -24,7 +24,7 @@ loop-i-preserved c =
       room = l.invariant.room;
       there = l.invariant.there;
       same = simp length-set l.invariant.same;
-      tags = tags_more c.args.to.now c.args.bytes.now l.i _ l.invariant.tags (omega (arith, l.invariant.room)) c.read_u32_le.ensures;
+      tags = tags_more c.args.to.now c.args.bytes.now l.i _ l.invariant.tags (omega (arith, l.invariant.room)) c.read_le.ensures;
     }
 
 pub returns-clause-to_after : goal.returns-clause-to_after

@@ -8,12 +8,12 @@ pub returns : goal.returns
 unfolding entry_at
 returns c =
     λ i. record {
-      tag = c.read_u32_le-tag.ensures i;
+      tag = c.read_le-tag.ensures i;
       position =
           record {
-            cursor = c.read_u32_le-cursor.ensures i;
-            frames = record { 0 = c.read_u32_le-frames.ensures i };
-            samples = record { 0 = c.read_u64_le-samples.ensures i };
-            blocks = record { 0 = c.read_u32_le-blocks.ensures i };
+            cursor = c.read_le-cursor.ensures i;
+            frames = record { 0 = c.read_le-frames.ensures i };
+            samples = record { 0 = c.read_le-samples.ensures i };
+            blocks = record { 0 = c.read_le-blocks.ensures i };
           };
     }

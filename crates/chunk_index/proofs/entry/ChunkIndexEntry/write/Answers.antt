@@ -17,8 +17,8 @@ returns c =
     let first = second in
     let start = first in
     let a = start.args in
-    let e = second.write_u32_le-2.ensures ∙ ap (λ (l : List ℕ). put_le 4 l (a.at + 4) a.self.position.cursor) first.write_u32_le.ensures in
-    let e = third.write_u32_le-3.ensures ∙ ap (λ (l : List ℕ). put_le 4 l (a.at + 8) a.self.position.frames.0) e in
-    let e = fourth.write_u32_le-4.ensures ∙ ap (λ (l : List ℕ). put_le 4 l (a.at + 12) a.self.position.blocks.0) e in
-    let e = fifth.write_u64_le.ensures ∙ ap (λ (l : List ℕ). put_le 8 l (a.at + 16) a.self.position.samples.0) e in
+    let e = second.write_le-2.ensures ∙ ap (λ (l : List ℕ). put_le 4 l (a.at + 4) a.self.position.cursor) first.write_le.ensures in
+    let e = third.write_le-3.ensures ∙ ap (λ (l : List ℕ). put_le 4 l (a.at + 8) a.self.position.frames.0) e in
+    let e = fourth.write_le-4.ensures ∙ ap (λ (l : List ℕ). put_le 4 l (a.at + 12) a.self.position.blocks.0) e in
+    let e = fifth.write_le-5.ensures ∙ ap (λ (l : List ℕ). put_le 8 l (a.at + 16) a.self.position.samples.0) e in
     e ∙ entry_stored a.table.now a.at a.self start.requires.entry_len_in_bounds
