@@ -12,7 +12,7 @@ use lib.ListN.{length, take, drop, length-take, length-drop}
 use Rattle.error.specs.Answer.{Answer, accepted, refused}
 use Rattle.fields.specs.File.{within_limit}
 use Rattle.demuxer.specs.Head.{head_at, count_of}
-use Rattle.demuxer.specs.Packet.{Shown, packet_duration, ticks, payload_of, shown_of}
+use Rattle.demuxer.specs.Packet.{Shown, packet_duration, payload_of, shown_of}
 use Rattle.demuxer.specs.Position.{in_range}
 use Rattle.demuxer.specs.Read.{ReadAnswer, packet, End, Reading, refuse, payload_at, cut_off, read_frame, read_sound, read_head, read_chunk, read_of}
 use Rattle.demuxer.specs.Read as read_answers
@@ -35,7 +35,7 @@ use Rattle.capi.specs.Lists.{answered, packet_in, read_in, step_in}
 record Named (file : List ℕ) (w : Walker) (p : Shown) : Type 0 where
   inside : w.position.cursor + 8 + length p.payload ≤ length file
   payload-is : p.payload ≡ take (length p.payload) (drop (w.position.cursor + 8) file)
-  duration-is : ticks (packet_duration (shown_duration p.duration)) ≡ p.duration
+  duration-is : (packet_duration (shown_duration p.duration)) ≡ p.duration
 
 AnswerNamed : List ℕ → Walker → ReadAnswer → Type 0
 AnswerNamed file w (packet p) = Named file w p
@@ -43,16 +43,16 @@ AnswerNamed file w End = Unit
 AnswerNamed file w (read_answers.refused r) = Unit
 
 -- a duration that is shown as none where it is 0
-shown_back : (n : ℕ) → ticks (packet_duration (shown_duration (ticks (packet_duration n)))) ≡ ticks (packet_duration n)
+shown_back : (n : ℕ) → (packet_duration (shown_duration ((packet_duration n)))) ≡ (packet_duration n)
 shown_back n = go _ refl
   where
-    go : (b : Bool) → eqb n 0 ≡ b → ticks (packet_duration (shown_duration (ticks (cond b None (Some n))))) ≡ ticks (cond b None (Some n))
+    go : (b : Bool) → eqb n 0 ≡ b → (packet_duration (shown_duration ((cond b None (Some n))))) ≡ (cond b None (Some n))
     go true e = refl
     go false e = rw e
 
 module _ (file : List ℕ) (w : Walker) where
   named : (size stream stamp : ℕ) (duration : Option ℕ) → leb (w.position.cursor + 8 + size) (length file) ≡ true
-      → ticks (packet_duration (shown_duration duration)) ≡ duration
+      → (packet_duration (shown_duration duration)) ≡ duration
       → Named file w (record { stream = stream; payload = payload_at file w.position.cursor size; stamp = stamp; duration = duration })
   named size stream stamp duration h d =
       let l : w.position.cursor + 8 + size ≤ length file = leb-true _ _ h in
@@ -65,7 +65,7 @@ module _ (file : List ℕ) (w : Walker) where
 
   -- a payload that is whole, or End
   whole : (size stream stamp : ℕ) (duration : Option ℕ) (next : Walker) (b : Bool) → leb (w.position.cursor + 8 + size) (length file) ≡ b
-      → ticks (packet_duration (shown_duration duration)) ≡ duration
+      → (packet_duration (shown_duration duration)) ≡ duration
       → AnswerNamed file w
       (cond {A = Reading} b
       (record {
@@ -113,8 +113,8 @@ module _ (file : List ℕ) (w : Walker) where
       let start : word out 3 ≡ w.position.cursor + 8 = ap (λ (l : List ℕ). word l 3) s.words in
       let len : word out 4 ≡ length p.payload = ap (λ (l : List ℕ). word l 4) s.words in
       let payload : payload_of file (packet_in out) ≡ p.payload = payload_named p n (packet_in out) start len in
-      let duration : ticks (packet_duration (word out 6)) ≡ p.duration =
-      ap (λ (l : List ℕ). ticks (packet_duration (word l 6))) s.words ∙ n.duration-is in
+      let duration : (packet_duration (word out 6)) ≡ p.duration =
+      ap (λ (l : List ℕ). (packet_duration (word l 6))) s.words ∙ n.duration-is in
       rw (s.number, first)
       (λ i. packet (record { stream = word (s.words i) 2; payload = payload i; stamp = word (s.words i) 5; duration = duration i }))
   read-says End n number out s = rw (s.number, s.words) refl

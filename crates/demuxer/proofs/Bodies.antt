@@ -1,25 +1,21 @@
--- A payload that is whole, and one that is short, told by the one test of its end; and the sample count in the part that is there.
+-- The sample count in the part of a payload that is there, and the length of a packet's payload.
 -- Assumes nothing.
 use mathlib.Core.Path.{◌≡◌, refl, sym, ap, ◌∙◌}
-use Rattle.error.specs.Refusal.{said}
-use Rattle.std.proofs.Common.{Option, Some, None}
 use mathlib.Core.Bool.{Bool, true, false, cond}
 use mathlib.Core.List.{List}
 use Prim.Native.Nat.{ℕ, ◌+◌, ◌-◌, ◌≤◌, ◌<◌, min}
 use native.Mathlib.Decide.{dec_le}
 use native.Mathlib.Nat.{lt_of_not-le}
 use native.Mathlib.Omega.{arith}
-use borrow.Author.Tests.{le-leb, lt-leb, leb-true}
+use borrow.Author.Tests.{le-leb, lt-leb}
 use lib.Dec.{leb}
 use lib.ListN.{length, take, drop, length-take, length-drop}
 use lib.Seq.{take_all}
 use Rattle.error.specs.Answer.{Answer, accepted, ask}
 use Rattle.fields.specs.Le.{le}
-use Rattle.fields.proofs.Impossible.{impossible}
 use Rattle.parse.specs.Preamble.{preamble_of}
 use Rattle.parse.specs.declared.preamble.AmvAudioPreamble.{AmvAudioPreamble}
 use Rattle.demuxer.specs.Head.{CountIs, preamble_count, count_of}
-use Rattle.demuxer.specs.Steps.{body_at}
 use Rattle.demuxer.specs.Packet.{payload_of}
 use Rattle.demuxer.specs.declared.packet.Packet.{Packet}
 
@@ -35,30 +31,6 @@ count-is payload = go (leb 8 (length payload))
     go false = refl
 
 module _ (file : List ℕ) (start size : ℕ) where
-  pub body_short : body_at file start size ≡ None → leb (start + size) (length file) ≡ false
-  unfolding body_at
-  body_short e = go _ refl e
-    where
-      go : (b : Bool) → leb (start + size) (length file) ≡ b → cond b (Some (start, size)) None ≡ None
-          → leb (start + size) (length file) ≡ false
-      go true p q = impossible cc
-      go false p q = p
-
-  pub body_whole : (s n : ℕ) → body_at file start size ≡ Some (s, n) → (leb (start + size) (length file) ≡ true) × (s ≡ start) × (n ≡ size)
-  unfolding body_at
-  body_whole s n e = go _ refl e
-    where
-      go : (b : Bool) → leb (start + size) (length file) ≡ b → cond b (Some (start, size)) None ≡ Some (s, n)
-          → (leb (start + size) (length file) ≡ true) × (s ≡ start) × (n ≡ size)
-      go true p q = (p, cc, cc)
-      go false p q = impossible cc
-
-  pub body_placed : (s n : ℕ) → body_at file start size ≡ Some (s, n) → (s ≡ start) × (s + n ≤ length file)
-  body_placed s n e =
-      let b = body_whole s n e in
-      let l : start + size ≤ length file = leb-true _ _ b.0 in
-      (b.1, omega (arith, l, b.1, b.2))
-
   -- the count of a payload that starts past the file's end
   pub count_past : length file < start → count_of (take size (drop start file)) ≡ 0
   count_past h =

@@ -1,7 +1,7 @@
 -- What a read leaves of the walker, by its answer. Assumes nothing.
 use mathlib.Core.Path.{◌≡◌, refl, sym, subst}
-use Rattle.std.proofs.Common.{Result, Ok, Err}
-use Rattle.std.proofs.Common.{Option, Some, None}
+use Rattle.std.proofs.Common.{Result, Ok}
+use Rattle.std.proofs.Common.{Option, Some}
 use Rattle.error.specs.declared.AmvError.{AmvError}
 use Prim.Native.Nat.{ℕ}
 use mathlib.Core.List.{List}

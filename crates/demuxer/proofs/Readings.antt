@@ -1,6 +1,6 @@
 -- A read is one of eight: what holds of each holds of every read. Assumes nothing.
 use mathlib.Core.Path.{◌≡◌, refl}
-use Rattle.std.proofs.Common.{Option, Some, None}
+use Rattle.std.proofs.Common.{Some}
 use mathlib.Core.Bool.{Bool, true, false, cond}
 use mathlib.Core.List.{List}
 use Prim.Native.Nat.{ℕ, ◌+◌, ◌<◌}
@@ -14,7 +14,7 @@ use Rattle.chunk.specs.declared.ChunkKind.TheVariants.{Video, Audio, Other}
 use Rattle.fields.specs.File.{within_limit}
 use Rattle.fields.specs.Le.{le}
 use Rattle.demuxer.specs.Head.{is_trailer, kind_head, head_at, count_of}
-use Rattle.demuxer.specs.Packet.{packet_duration, ticks}
+use Rattle.demuxer.specs.Packet.{packet_duration}
 use Rattle.demuxer.specs.Position.{in_range, past_frame, past_sound}
 use Rattle.demuxer.specs.Read.{Reading, packet, End, refuse, cut_off, at_trailer, advanced, payload_at, read_frame, read_sound, read_head, read_chunk, read_of}
 use Rattle.demuxer.specs.declared.head.Head.TheVariants as head
@@ -37,7 +37,7 @@ abbrev pub sound_read : List ℕ → Walker → ℕ → Reading
 sound_read file w size =
     let payload = payload_at file w.position.cursor size in
     record {
-      answer = packet (record { stream = 1; payload = payload; stamp = w.position.samples.0; duration = ticks (packet_duration (count_of payload)) });
+      answer = packet (record { stream = 1; payload = payload; stamp = w.position.samples.0; duration = (packet_duration (count_of payload)) });
       walker = advanced w (past_sound w.position size (count_of payload));
     }
 

@@ -1,7 +1,7 @@
 -- 01's sentences about one read hold. Where the bytes at the cursor are given, the read is followed through them; what is said of every read
 -- goes by its eight cases. Assumes nothing.
 use mathlib.Core.Path.{◌≡◌, refl, sym, ap, ◌∙◌}
-use Rattle.std.proofs.Common.{Option, Some, None}
+use Rattle.std.proofs.Common.{Some}
 use mathlib.Core.Bool.{Bool, true, false}
 use mathlib.Core.List.{List, [], ◌∷◌, ◌++◌}
 use Prim.Native.Nat.{ℕ, ◌+◌, ◌≤◌, ◌<◌}
@@ -24,7 +24,7 @@ use Rattle.fields.proofs.Impossible.{impossible}
 use Rattle.demuxer.specs.Head.{trailer_tag, trailer_size, is_trailer, kind_head, head_at, count_of}
 use Rattle.demuxer.specs.Read.{Reading, ReadAnswer, packet, End, payload_at, read_frame, read_sound, read_head, read_chunk, read_of}
 use Rattle.demuxer.specs.Read as read
-use Rattle.demuxer.specs.Packet.{packet_duration, ticks}
+use Rattle.demuxer.specs.Packet.{packet_duration}
 use Rattle.demuxer.specs.Position.{InRange}
 use Rattle.demuxer.specs.Sentences.{Gives, moved, AtCursor, headed, as_answer, ReadSentences}
 use Rattle.demuxer.specs.declared.head.Head.{Head}
@@ -112,7 +112,7 @@ frame-read file payload rest w a going s =
 pub sound-read : (file payload rest : List ℕ) (w : Walker) → AtCursor file w (headed audio_tag (length payload) (payload ++ rest)) → w.end ≡ false
     → length payload ≤ payload_limit
     → let p = w.position in
-    Gives file w (packet (record { stream = 1; payload = payload; stamp = p.samples.0; duration = ticks (packet_duration (count_of payload)) }))
+    Gives file w (packet (record { stream = 1; payload = payload; stamp = p.samples.0; duration = (packet_duration (count_of payload)) }))
     (moved w (p.cursor + (8 + length payload)) p.frames.0 (p.samples.0 + count_of payload) (p.blocks.0 + 1))
 unfolding read_sound
 sound-read file payload rest w a going s =

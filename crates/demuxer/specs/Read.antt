@@ -9,7 +9,7 @@ use Rattle.error.specs.declared.Refusal.{Refusal}
 use Rattle.fields.specs.File.{within_limit}
 use Rattle.demuxer.specs.Position.{start, in_range, past_frame, past_sound}
 use Rattle.demuxer.specs.Head.{head_at, count_of}
-use Rattle.demuxer.specs.Packet.{Shown, packet_duration, ticks, shown_of}
+use Rattle.demuxer.specs.Packet.{Shown, packet_duration, shown_of}
 use Rattle.demuxer.specs.declared.head.Head.{Head}
 use Rattle.demuxer.specs.declared.head.Head.TheVariants as head
 use Rattle.demuxer.specs.declared.packet.Packet.{Packet}
@@ -88,7 +88,7 @@ read_sound file w size =
     let payload = payload_at file w.position.cursor size in
     if_whole file w size
     (record {
-      answer = packet (record { stream = 1; payload = payload; stamp = w.position.samples.0; duration = ticks (packet_duration (count_of payload)) });
+      answer = packet (record { stream = 1; payload = payload; stamp = w.position.samples.0; duration = (packet_duration (count_of payload)) });
       walker = advanced w (past_sound w.position size (count_of payload));
     })
 

@@ -13,7 +13,7 @@ pub const TRAILER_TAG: u32 = 0x5f564d41;
 pub const TRAILER_SIZE: u32 = 0x5f444e45;
 
 // What stands there; a chunk with the length of its payload.
-#[derive(Clone, Copy)]
+#[derive(Clone, Copy, Debug, PartialEq, Eq)]
 pub enum Head {
     // Fewer than 8 bytes.
     Short,
@@ -27,10 +27,7 @@ pub enum Head {
 fn is_trailer(tag: u32, size: u32) -> bool
     ensures { result ≡ is_trailer tag size }
 {
-    if tag != TRAILER_TAG {
-        return false;
-    }
-    size == TRAILER_SIZE
+    tag == TRAILER_TAG && size == TRAILER_SIZE
 }
 
 impl Head {
@@ -63,21 +60,21 @@ pub fn head_at(file: &[u8], at: usize) -> Head
 }
 
 // The payload of a length that starts at an offset. Refuses nothing: a payload that the file ends inside is a case.
+#[tactic(auto, unfolding(crate::specs::Steps::body_at))]
 pub fn body_at(file: &[u8], start: usize, size: u32) -> Option<(usize, usize)>
     ensures { result ≡ body_at file.now start size }
 {
     let len = size as usize;
-    if file.len() < start {
-        return None;
+    if start <= file.len() && len <= file.len() - start {
+        Some((start, len))
+    } else {
+        None
     }
-    if file.len() - start < len {
-        return None;
-    }
-    Some((start, len))
 }
 
 // The sample count of a sound payload, by the preamble in the part of it that the file has; 0 where that is too short for one. Refuses
 // nothing.
+#[tactic(auto, using(crate::proofs::Bodies::count_past))]
 pub fn sample_count(file: &[u8], start: usize, size: u32) -> u32
     ensures { result ≡ count_of (take size (drop start file.now)) }
 {

@@ -6,19 +6,19 @@ use crate::walker::Walker;
 use chunk::advance_total;
 
 // How many frames came before.
-#[derive(Clone, Copy)]
+#[derive(Clone, Copy, Debug, PartialEq, Eq)]
 pub struct FrameStamp(pub u64);
 
 // How many samples came before.
-#[derive(Clone, Copy)]
+#[derive(Clone, Copy, Debug, PartialEq, Eq)]
 pub struct SampleStamp(pub u64);
 
 // How many sound blocks came before.
-#[derive(Clone, Copy)]
+#[derive(Clone, Copy, Debug, PartialEq, Eq)]
 pub struct BlockCount(pub u64);
 
 // A chunk's offset, and the frames, samples and blocks before it.
-#[derive(Clone, Copy)]
+#[derive(Clone, Copy, Debug, PartialEq, Eq)]
 pub struct Position {
     pub cursor: u64,
     pub frames: FrameStamp,
@@ -43,22 +43,14 @@ impl Position {
     }
 
     // Whether cursor and counters are each at most the limit. Refuses nothing; a caller that is given a position refuses with 32.
+    #[tactic(auto, unfolding(crate::specs::Position::in_range))]
     pub fn in_range(self) -> bool
         ensures { result ≡ in_range self }
     {
-        if COUNT_LIMIT < self.cursor {
-            return false;
-        }
-        if COUNT_LIMIT < self.frames.0 {
-            return false;
-        }
-        if COUNT_LIMIT < self.samples.0 {
-            return false;
-        }
-        if COUNT_LIMIT < self.blocks.0 {
-            return false;
-        }
-        true
+        self.cursor <= COUNT_LIMIT
+            && self.frames.0 <= COUNT_LIMIT
+            && self.samples.0 <= COUNT_LIMIT
+            && self.blocks.0 <= COUNT_LIMIT
     }
 
     // The position past a frame of a length. Refuses nothing: this one is in range.
@@ -66,13 +58,10 @@ impl Position {
         requires { InRange self }
         ensures { result ≡ past_frame self size }
     {
-        let samples = self.samples;
-        let blocks = self.blocks;
         Position {
             cursor: self.cursor + advance_total(size),
             frames: FrameStamp(self.frames.0 + 1),
-            samples,
-            blocks,
+            ..self
         }
     }
 
@@ -81,12 +70,11 @@ impl Position {
         requires { InRange self }
         ensures { result ≡ past_sound self size count }
     {
-        let frames = self.frames;
         Position {
             cursor: self.cursor + advance_total(size),
-            frames,
             samples: SampleStamp(self.samples.0 + count as u64),
             blocks: BlockCount(self.blocks.0 + 1),
+            ..self
         }
     }
 }

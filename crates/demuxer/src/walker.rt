@@ -11,7 +11,7 @@ use prelude::prelude::AmvPrelude;
 
 // The state of reading, which every read returns anew: where it stands, whether it has ended, whether the file is cut (it ends before its
 // trailer, at a chunk or inside one), and the trailer.
-#[derive(Clone, Copy)]
+#[derive(Clone, Copy, Debug, PartialEq, Eq)]
 pub struct Walker {
     pub position: Position,
     pub end: bool,
@@ -20,7 +20,7 @@ pub struct Walker {
 }
 
 // A read's answer, and the walker that the next call gets.
-#[derive(Clone, Copy)]
+#[derive(Clone, Copy, Debug, PartialEq, Eq)]
 pub struct Read {
     pub answer: Result<Option<Packet>, AmvError>,
     pub walker: Walker,
@@ -43,24 +43,24 @@ impl Walker {
     }
 
     // Ended before the trailer, at a chunk or inside one: the file is cut.
-    fn cut_off(mut self) -> Walker
+    fn cut_off(self) -> Walker
         ensures { result ≡ cut_off self }
     {
-        self.end = true;
-        self.cut = true;
-        self
+        Walker {
+            end: true,
+            cut: true,
+            ..self
+        }
     }
 
     // Ended at the trailer.
     fn at_trailer(self) -> Walker
         ensures { result ≡ at_trailer self }
     {
-        let position = self.position;
         Walker {
-            position,
             end: true,
-            cut: self.cut,
-            trailer: Some(position.cursor),
+            trailer: Some(self.position.cursor),
+            ..self
         }
     }
 
@@ -68,16 +68,11 @@ impl Walker {
     fn advanced(self, position: Position) -> Walker
         ensures { result ≡ advanced self position }
     {
-        let trailer = self.trailer;
-        Walker {
-            position,
-            end: self.end,
-            cut: self.cut,
-            trailer,
-        }
+        Walker { position, ..self }
     }
 
     // The packet of a frame's header at the cursor, or End where the file is cut.
+    #[tactic(auto, unfolding(crate::specs::Read::read_frame, crate::specs::Packet::payload_of, crate::specs::Packet::shown_of, crate::specs::Steps::body_at))]
     fn read_frame(self, file: &[u8], size: u32) -> Read
         requires { InRange self.position }
         ensures result_value { said_read file.now result ≡ read_frame file.now self size }
@@ -105,6 +100,7 @@ impl Walker {
     }
 
     // The packet of a sound block's header at the cursor, or End where the file is cut.
+    #[tactic(auto, unfolding(crate::specs::Read::read_sound, crate::specs::Packet::payload_of, crate::specs::Packet::shown_of, crate::specs::Steps::body_at))]
     fn read_sound(self, file: &[u8], size: u32) -> Read
         requires { InRange self.position }
         ensures result_value { said_read file.now result ≡ read_sound file.now self size }
@@ -133,6 +129,7 @@ impl Walker {
     }
 
     // What stands at the cursor of a walker that has not ended.
+    #[tactic(auto, unfolding(crate::specs::Read::read_chunk))]
     fn read_chunk(self, file: &[u8]) -> Read
         requires { InRange self.position }
         ensures result_value { said_read file.now result ≡ read_chunk file.now self }
@@ -159,6 +156,7 @@ impl Walker {
 
     // The next packet and the walker past it, or End at the trailer or at the file's end. Refused in this order, with the walker as it was: a
     // file past the limit with 10, a position out of range with 32, an unknown tag with 31 at the cursor.
+    #[tactic(auto, unfolding(crate::specs::Read::read_of))]
     pub fn next_packet(self, file: &[u8]) -> Read
         ensures result_value { said_read file.now result ≡ read_of file.now self }
         ensures placed { Placed file.now self result.answer }
@@ -169,8 +167,7 @@ impl Walker {
                 walker: self,
             };
         }
-        let position = self.position;
-        if !position.in_range() {
+        if !self.position.in_range() {
             return Read {
                 answer: Err(AmvError::StateOutOfRange),
                 walker: self,

@@ -6,7 +6,7 @@ use Prim.Native.Nat.{ℕ, zero, suc, ◌+◌}
 use native.Mathlib.Omega.{arith}
 use lib.ListN.{length, take, length-append}
 use Rattle.demuxer.specs.Head.{count_of}
-use Rattle.demuxer.specs.Packet.{Shown, packet_duration, ticks}
+use Rattle.demuxer.specs.Packet.{Shown, packet_duration}
 use Rattle.demuxer.specs.Position.{past_frame, past_sound}
 use Rattle.demuxer.specs.declared.position.Position.{Position}
 use Rattle.walk.specs.declared.Kind.{Kind}
@@ -30,7 +30,7 @@ past-passed p Sound payload e = ap (λ (n : ℕ). past_sound p n (count_of paylo
 -- the packet of a chunk that stands at a position
 abbrev pub shown_at : Position → Kind → List ℕ → Shown
 shown_at p Frame payload = record { stream = 0; payload = payload; stamp = p.frames.0; duration = Some 1 }
-shown_at p Sound payload = record { stream = 1; payload = payload; stamp = p.samples.0; duration = ticks (packet_duration (count_of payload)) }
+shown_at p Sound payload = record { stream = 1; payload = payload; stamp = p.samples.0; duration = (packet_duration (count_of payload)) }
 
 -- past k chunks
 unfoldable pub position_at : Position → ℕ → List Chunk → Position

@@ -2,7 +2,7 @@
 use Rattle.std.specs.Prelude.{ℕ, suc, ◌+◌, List, [], ◌∷◌}
 use Rattle.std.specs.Prelude.{Option, Some, None}
 use Rattle.demuxer.specs.Head.{count_of}
-use Rattle.demuxer.specs.Packet.{Shown, packet_duration, ticks}
+use Rattle.demuxer.specs.Packet.{Shown, packet_duration}
 use Rattle.walk.specs.Chunks.{Chunk, chunk_of}
 use Rattle.walk.specs.declared.Kind.TheVariants.{Frame, Sound}
 
@@ -13,7 +13,7 @@ drain_from frames samples [] = []
 drain_from frames samples (chunk_of Frame payload ∷ cs) =
     record { stream = 0; payload = payload; stamp = frames; duration = Some 1 } ∷ drain_from (frames + 1) samples cs
 drain_from frames samples (chunk_of Sound payload ∷ cs) =
-    record { stream = 1; payload = payload; stamp = samples; duration = ticks (packet_duration (count_of payload)) }
+    record { stream = 1; payload = payload; stamp = samples; duration = (packet_duration (count_of payload)) }
     ∷ drain_from frames (samples + count_of payload) cs
 
 abbrev pub drain : List Chunk → List Shown

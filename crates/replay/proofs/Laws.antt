@@ -13,7 +13,7 @@ use lib.ListN.{length, set}
 use Rattle.error.specs.Answer.{Answer, accepted, refused}
 use Rattle.fields.specs.Le.{put}
 use Rattle.fields.proofs.Laws.{sets, stores_put}
-use Rattle.demuxer.specs.Packet.{ticks, shown_of}
+use Rattle.demuxer.specs.Packet.{shown_of}
 use Rattle.demuxer.specs.Read.{packet, said_next, said_read, Placed, read_of}
 use Rattle.demuxer.proofs.Bodies.{length-payload}
 use Rattle.demuxer.specs.declared.walker.Walker.{Walker}

@@ -4,7 +4,6 @@ use Rattle.std.specs.Prelude.{Result, Ok, Err}
 use Rattle.std.specs.Prelude.{Option, Some, None}
 use Rattle.error.specs.declared.AmvError.{AmvError}
 use Rattle.error.specs.Refusal.{refusal_of}
-use Rattle.demuxer.specs.Packet.{ticks}
 use Rattle.demuxer.specs.declared.walker.Walker.{Walker}
 use Rattle.recording.specs.Machine.{Call, call}
 use Rattle.replay.specs.Replay.{refusal_row, packet_row, row_of, row_answer}

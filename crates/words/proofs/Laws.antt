@@ -9,7 +9,7 @@ use Rattle.error.specs.Refusal.{refusal_of}
 use Rattle.error.specs.declared.Refusal.{Refusal}
 use Rattle.error.specs.declared.AmvError.{AmvError}
 use Rattle.error.proofs.Numbers.{never_zero}
-use Rattle.demuxer.specs.Packet.{shown_of, ticks}
+use Rattle.demuxer.specs.Packet.{shown_of}
 use Rattle.demuxer.specs.Read.{PlacedAt}
 use Rattle.demuxer.proofs.Bodies.{length-payload}
 use Rattle.demuxer.specs.declared.packet.Packet.{Packet}

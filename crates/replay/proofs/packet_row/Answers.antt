@@ -1,7 +1,6 @@
 -- `replay::packet_row` meets its contract. Each arm's row is the packet's with the duration that the arm has found.
 -- Assumes nothing.
 use mathlib.Core.Path.{sym, ap}
-use Rattle.demuxer.specs.Packet.{ticks}
 use Rattle.replay.specs.Replay.{packet_row}
 use Rattle.replay.proofs.packet_row.Goals as goal
 
