@@ -11,7 +11,7 @@ use demuxer::head::{Head, head_at, sample_count};
 use demuxer::position::Position;
 
 // The two kinds of chunk that a walk goes past.
-#[derive(Clone, Copy)]
+#[derive(Clone, Copy, Debug, PartialEq, Eq)]
 pub enum Kind {
     Frame,
     Sound,
@@ -32,15 +32,12 @@ impl Kind {
     pub fn is_frame(self) -> bool
         ensures { result ≡ is_frame self }
     {
-        match self {
-            Kind::Frame => true,
-            Kind::Sound => false,
-        }
+        matches!(self, Kind::Frame)
     }
 }
 
 // A chunk, as far as the file has it.
-#[derive(Clone, Copy)]
+#[derive(Clone, Copy, Debug, PartialEq, Eq)]
 pub struct ChunkAt {
     pub kind: Kind,
     // Of the payload, as the header says.
@@ -50,7 +47,7 @@ pub struct ChunkAt {
 }
 
 // What a walk meets at an offset; it stops at all but a chunk. One variant alone holds something, so that no two share their bytes.
-#[derive(Clone, Copy)]
+#[derive(Clone, Copy, Debug, PartialEq, Eq)]
 pub enum Step {
     // Fewer than 8 bytes are left.
     RanOut,
@@ -74,6 +71,7 @@ fn chunk_at(file: &[u8], at: usize, kind: Kind, size: u32) -> ChunkAt
 }
 
 // One step: what stands at an offset of a file, for every offset.
+#[tactic(auto, using(crate::proofs::Walks::video_there, crate::proofs::Walks::audio_there), unfolding(crate::specs::Walk::step_at))]
 pub fn step_at(file: &[u8], at: usize) -> Step
     ensures { result ≡ step_at file.now at }
 {
@@ -94,8 +92,7 @@ impl ChunkAt {
         requires walked { Walked position }
         ensures { (result ≡ past_at file.now position self) × Walked result }
     {
-        let kind = self.kind;
-        match kind {
+        match self.kind {
             Kind::Frame => position.past_frame(self.size),
             Kind::Sound => {
                 let count = sample_count(file, position.cursor as usize + 8, self.size);
