@@ -5,6 +5,8 @@ use mathlib.Core.List.{List, [], ◌∷◌}
 use Prim.Native.Nat.{ℕ, zero, suc, ◌+◌, ◌*◌, ◌≤◌}
 use native.Mathlib.Omega.{arith}
 use lib.ListN.{length}
+use Rattle.std.proofs.Common.{◌⊎◌, inl, inr}
+use Prim.Native.Nat.{◌-◌}
 use Rattle.chunk.specs.Chunk.{payload_limit}
 use Rattle.error.specs.Answer.{accepted, and_then}
 use Rattle.fields.specs.File.{file_limit}
@@ -12,11 +14,11 @@ use Rattle.prelude.specs.Layout.{prelude_len}
 use Rattle.demuxer.specs.Position.{start}
 use Rattle.demuxer.specs.Read.{payload_at}
 use Rattle.demuxer.specs.declared.position.Position.{Position}
-use Rattle.walk.specs.Walk.{Stop, Walk, stop, chunk, on_step, step_at, walk_for, walk, past, file_walk}
+use Rattle.walk.specs.Walk.{Stop, ran_out, trailer, Walk, stop, chunk, on_step, step_at, walk_for, walk, past, file_walk}
 use Rattle.walk.specs.declared.ChunkAt.{ChunkAt}
 use Rattle.walk.specs.declared.Step.{Step}
 use Rattle.walk.specs.declared.Step.TheVariants as step
-use Rattle.walk.proofs.Walks.{Goes}
+use Rattle.walk.proofs.Walks.{Goes, step_means}
 use Rattle.chunk_index.specs.Entry.{entry}
 use Rattle.chunk_index.specs.Index.{recorded, records, stop_known, tags_known}
 use Rattle.chunk_index.specs.Steps.{recorded_at}
@@ -62,6 +64,19 @@ records-few file = rw (records-length start (file_walk file)) (count-le (length 
 
 -- ---- where a pass over the headers stands, whatever it counts
 
+-- the walk ends at an offset: fewer than 8 bytes are left, or the trailer stands there
+pub record EndsAt (file : List ℕ) (at : ℕ) : Type 0 where
+  pub at_stop : Stop
+  pub is : walk file at ≡ stop at_stop
+  pub known : (k : ℕ) → stop_known k at_stop ≡ accepted tt
+
+pub ended : (file : List ℕ) (at : ℕ) {x : Step} → step_at file at ≡ x → (x ≡ step.RanOut) ⊎ (x ≡ step.Trailer) → EndsAt file at
+ended file at s e =
+    elim e [
+      | inl p ↦ record { at_stop = ran_out; is = step_means file at step.RanOut (s ∙ p); known = λ k. refl }
+      | inr q ↦ let w = step_means file at step.Trailer (s ∙ q) in record { at_stop = trailer (length file - (at + 8)); is = w.is; known = λ k. refl }
+    ]
+
 -- an offset of the walk, after so many chunks: the tags from there on are what is left of the question
 pub record Headers (file : List ℕ) (at chunks : ℕ) : Type 0 where
   pub at-le : at ≤ file_limit + payload_limit
@@ -86,6 +101,11 @@ module _ {file : List ℕ} {at chunks : ℕ} (h : Headers file at chunks) where
   pub headers_stop : {A : Type 0} {s : Stop} (n m : A) → walk file at ≡ stop s → m ≡ n
       → and_then (stop_known at s) (λ _. accepted n) ≡ and_then (tags_known prelude_len (file_walk file)) (λ _. accepted m)
   headers_stop n m w q = rw (← headers_known w, q)
+
+  -- and where the walk ends, every tag was known
+  pub headers_ended : {A : Type 0} (n m : A) (w : EndsAt file at) → m ≡ n
+      → accepted n ≡ and_then (tags_known prelude_len (file_walk file)) (λ _. accepted m)
+  headers_ended n m w q = rw (← headers_known w.is, w.known at, q)
 
   pub headers_end : {A : Type 0} {c : ChunkAt} (n m : A) → Goes file at c → recorded_at c ≡ false → m ≡ n
       → accepted n ≡ and_then (tags_known prelude_len (file_walk file)) (λ _. accepted m)

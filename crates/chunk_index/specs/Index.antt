@@ -1,9 +1,6 @@
 -- `build_chunk_index`. Assumes nothing.
 use Rattle.std.specs.Prelude.{ℕ, ◌+◌, ◌*◌, min, Bool, true, cond, List, [], ◌∷◌, leb, length}
-use Rattle.std.specs.Prelude.{Result, Ok, Err}
-use Rattle.error.specs.declared.AmvError.{AmvError}
 use Rattle.error.specs.Answer.{Answer, accepted, refused, numbered, ask, and_then}
-use Rattle.error.specs.Refusal.{refusal_of}
 use Rattle.fields.specs.File.{within_limit}
 use Rattle.fields.specs.Le.{put}
 use Rattle.chunk.specs.Chunk.{advance_total}
@@ -55,4 +52,3 @@ built_from table (refused r) = record { answer = refused r; table = table }
 unfoldable pub build_of : List ℕ → List ℕ → Built
 build_of file table =
     built_from table (and_then (index_of file) (λ es. ask (leb (entry_len * length es) (length table)) 40 0 (accepted es)))
-

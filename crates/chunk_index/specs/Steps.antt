@@ -1,7 +1,6 @@
 -- Steps on the way: what functions below the calls promise each other. Nothing here need be believed. Assumes nothing.
-use Rattle.std.specs.Prelude.{◌≡◌, ℕ, ◌+◌, ◌≤◌, min, Bool, true, List, leb, length}
+use Rattle.std.specs.Prelude.{ℕ, ◌+◌, ◌≤◌, min, Bool, true, List, leb, length}
 use Rattle.error.specs.Answer.{Answer, accepted, and_then}
-use Rattle.error.specs.Refusal.{said}
 use Rattle.fields.specs.Capped.{u32_max}
 use Rattle.prelude.specs.Layout.{prelude_len}
 use Rattle.demuxer.specs.Position.{start}
@@ -12,7 +11,7 @@ use Rattle.walk.specs.declared.Kind.{Kind}
 use Rattle.walk.specs.declared.Kind.TheVariants.{Frame, Sound}
 use Rattle.chunk_index.specs.Index.{records, tags_known}
 use Rattle.chunk_index.specs.Summary.{none_counted, counts_from}
-use Rattle.chunk_index.specs.declared.summary.Counted.{Counted}
+use Rattle.chunk_index.specs.declared.summary.ChunkCounts.{ChunkCounts}
 
 -- whether a chunk gets a record, by its length and what is missing of it
 abbrev pub recorded_by : Kind → ℕ → ℕ → Bool
@@ -32,7 +31,6 @@ pub record Small (p : Position) : Type 0 where
 abbrev pub count_records : List ℕ → Answer ℕ
 count_records file = and_then (tags_known prelude_len (file_walk file)) (λ _. accepted (length (records start (file_walk file))))
 
--- what the summary's pass answers: the counts, and whether a tag is unknown
-pub record IsCount (file : List ℕ) (r : Counted) : Type 0 where
-  pub counts_are : r.counts ≡ counts_from none_counted (file_walk file)
-  pub known_is : said r.known ≡ tags_known prelude_len (file_walk file)
+-- what the summary's pass answers: the counts, or that a tag is unknown
+abbrev pub count_chunks : List ℕ → Answer ChunkCounts
+count_chunks file = and_then (tags_known prelude_len (file_walk file)) (λ _. accepted (counts_from none_counted (file_walk file)))

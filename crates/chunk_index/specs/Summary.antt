@@ -1,9 +1,6 @@
 -- The summary. Assumes nothing.
 use Rattle.std.specs.Prelude.{cond, List, ℕ, ◌+◌, eqb}
-use Rattle.std.specs.Prelude.{Result, Ok, Err}
-use Rattle.error.specs.declared.AmvError.{AmvError}
-use Rattle.error.specs.Answer.{Answer, accepted, refused, ask, and_then}
-use Rattle.error.specs.Refusal.{refusal_of}
+use Rattle.error.specs.Answer.{Answer, accepted, ask, and_then}
 use Rattle.fields.specs.File.{within_limit}
 use Rattle.prelude.specs.Layout.{prelude_len}
 use Rattle.walk.specs.Walk.{Walk, stop, chunk, file_walk}
@@ -30,4 +27,3 @@ counts_from s (chunk kind payload missing rest) =
 unfoldable pub summary_of : List ℕ → Answer ChunkCounts
 summary_of file =
     ask (within_limit file) 10 0 (and_then (tags_known prelude_len (file_walk file)) (λ _. accepted (counts_from none_counted (file_walk file))))
-

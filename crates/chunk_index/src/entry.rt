@@ -7,7 +7,7 @@ ghost use Rattle.chunk_index.specs.Steps.{Small};
 use demuxer::position::{BlockCount, FrameStamp, Position, SampleStamp};
 
 // A chunk's tag, and where it stands.
-#[derive(Clone, Copy)]
+#[derive(Clone, Copy, Debug, PartialEq, Eq)]
 pub struct ChunkIndexEntry {
     pub tag: u32,
     pub position: Position,
@@ -18,22 +18,20 @@ impl ChunkIndexEntry {
     pub const LEN: usize = 24;
 
     // The record at an offset of a table.
+    #[tactic(auto, unfolding(crate::specs::Entry::entry_at))]
     pub fn read(table: &[u8], at: usize) -> ChunkIndexEntry
         requires { at + entry_len ≤ length table.now }
         ensures { result ≡ entry_at table.now at }
     {
-        let tag = fields::read_le::<u32>(table, at);
-        let cursor = fields::read_le::<u32>(table, at + 4) as u64;
-        let frames = fields::read_le::<u32>(table, at + 8) as u64;
-        let blocks = fields::read_le::<u32>(table, at + 12) as u64;
-        let samples = fields::read_le::<u64>(table, at + 16);
-        let position = Position {
-            cursor,
-            frames: FrameStamp(frames),
-            samples: SampleStamp(samples),
-            blocks: BlockCount(blocks),
-        };
-        ChunkIndexEntry { tag, position }
+        ChunkIndexEntry {
+            tag: fields::read_le::<u32>(table, at),
+            position: Position {
+                cursor: fields::read_le::<u32>(table, at + 4) as u64,
+                frames: FrameStamp(fields::read_le::<u32>(table, at + 8) as u64),
+                samples: SampleStamp(fields::read_le::<u64>(table, at + 16)),
+                blocks: BlockCount(fields::read_le::<u32>(table, at + 12) as u64),
+            },
+        }
     }
 
     // Writes the record at an offset of a table.

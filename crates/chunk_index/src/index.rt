@@ -20,11 +20,9 @@ use walk::{ChunkAt, Kind, Step, step_at};
 fn recorded(chunk: ChunkAt) -> bool
     ensures { result ≡ recorded_at chunk }
 {
-    let kind = chunk.kind;
-    match kind {
+    match chunk.kind {
         Kind::Frame => true,
-        Kind::Sound => 8_u64.min(chunk.size as u64) + chunk.missing as u64
-            <= chunk.size as u64,
+        Kind::Sound => 8_u64.min(chunk.size as u64) + chunk.missing as u64 <= chunk.size as u64,
     }
 }
 
@@ -37,15 +35,8 @@ fn count_records(file: &[u8]) -> Result<usize, AmvError>
     let mut count: usize = 0;
     loop {
         match step_at(file, at) {
-            Step::RanOut => {
-                return Ok(count);
-            }
-            Step::Trailer => {
-                return Ok(count);
-            }
-            Step::UnknownTag => {
-                return Err(AmvError::UnknownTag(at as u64));
-            }
+            Step::RanOut | Step::Trailer => return Ok(count),
+            Step::UnknownTag => return Err(AmvError::UnknownTag(at as u64)),
             Step::Chunk(chunk) => {
                 if !recorded(chunk) {
                     return Ok(count);
@@ -72,9 +63,8 @@ fn write_records(file: &[u8], table: &mut [u8])
         if !recorded(chunk) {
             return;
         }
-        let kind = chunk.kind;
         let entry = ChunkIndexEntry {
-            tag: kind.tag(),
+            tag: chunk.kind.tag(),
             position,
         };
         entry.write(table, to);
@@ -92,14 +82,10 @@ pub fn build_chunk_index(file: &[u8], table: &mut [u8]) -> Result<usize, AmvErro
     if !fields::file::within_limit(file) {
         return Err(AmvError::FileTooLong);
     }
-    match count_records(file) {
-        Err(e) => Err(e),
-        Ok(count) => {
-            if table.len() / ChunkIndexEntry::LEN < count {
-                return Err(AmvError::TableTooShort);
-            }
-            write_records(file, table);
-            Ok(count)
-        }
+    let count = count_records(file)?;
+    if table.len() / ChunkIndexEntry::LEN < count {
+        return Err(AmvError::TableTooShort);
     }
+    write_records(file, table);
+    Ok(count)
 }

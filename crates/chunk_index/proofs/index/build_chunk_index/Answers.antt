@@ -2,7 +2,7 @@
 -- take; what is then written, or refused, is what the definition builds from them.
 -- Assumes nothing.
 use mathlib.Core.Path.{sym, ap, ◌∙◌}
-use Rattle.error.specs.Refusal.{said}
+use Rattle.error.proofs.Answers.{passed_on}
 use native.Mathlib.Omega.{arith}
 use borrow.Author.Tests.{leb-true}
 use Rattle.error.specs.Answer.{accepted}
@@ -22,8 +22,8 @@ count_records-requires c = leb-true _ _ (sym c.within_limit.ensures ∙ c.if-not
 pub returns-then-table-count : goal.returns-then-table-count
 returns-then-table-count c =
     let a = c.args in
-    let short = build_short a.file.now a.table.now (sym c.within_limit.ensures ∙ c.if-not-within_limit.false) (sym c.in-Ok.ensures) in
-    let n = counted_all a.file.now a.table.now (sym c.within_limit.ensures ∙ c.if-not-within_limit.false) (sym c.in-Ok.ensures) in
+    let short = build_short a.file.now a.table.now (sym c.within_limit.ensures ∙ c.if-not-within_limit.false) (sym c.in_ok-count.ensures) in
+    let n = counted_all a.file.now a.table.now (sym c.within_limit.ensures ∙ c.if-not-within_limit.false) (sym c.in_ok-count.ensures) in
     let b = short (omega (arith, c.if-table-count.true, n)) in
     record { result_value = sym (ap (λ (x : Built). x.answer) b); table_after = sym (ap (λ (x : Built). x.table) b) }
 
@@ -31,20 +31,19 @@ pub write_records-requires : goal.write_records-requires
 write_records-requires c =
     let a = c.args in
     let l = sym c.within_limit.ensures ∙ c.if-not-within_limit.false in
-    record { file_len_bound = leb-true _ _ l; file_in_bounds = omega (arith, c.if-table-count.false, counted_all a.file.now a.table.now l (sym c.in-Ok.ensures)) }
+    record { file_len_bound = leb-true _ _ l; file_in_bounds = omega (arith, c.if-table-count.false, counted_all a.file.now a.table.now l (sym c.in_ok-count.ensures)) }
 
-pub returns-in-Err : goal.returns-in-Err
-returns-in-Err c =
+pub returns-in_err-count : goal.returns-in_err-count
+returns-in_err-count c =
     let a = c.args in
-    let none = sym c.count_records.ensures ∙ ap said c.in-Err.is in
-    let b = build_refused a.file.now a.table.now (sym c.within_limit.ensures ∙ c.if-not-within_limit.false) none in
-    record { result_value = sym (ap (λ (x : Built). x.answer) b); table_after = sym (ap (λ (x : Built). x.table) b) }
+    let b = build_refused a.file.now a.table.now (sym c.within_limit.ensures ∙ c.if-not-within_limit.false) (sym c.in_err-count.ensures) in
+    record { result_value = passed_on _ _ c.from_residual.ensures ∙ sym (ap (λ (x : Built). x.answer) b); table_after = sym (ap (λ (x : Built). x.table) b) }
 
-pub returns-else-table-count : goal.returns-else-table-count
-returns-else-table-count c =
+pub returns : goal.returns
+returns c =
     let a = c.args in
     let l = sym c.within_limit.ensures ∙ c.if-not-within_limit.false in
-    let k = sym c.in-Ok.ensures in
+    let k = sym c.in_ok-count.ensures in
     let n = counted_all a.file.now a.table.now l k in
     let b = build_room a.file.now a.table.now l k (omega (arith, c.if-table-count.false, n)) in
     record { result_value = ap accepted n ∙ sym (ap (λ (x : Built). x.answer) b); table_after = c.write_records.ensures ∙ sym (ap (λ (x : Built). x.table) b) }

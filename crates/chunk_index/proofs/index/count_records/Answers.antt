@@ -5,7 +5,7 @@ use mathlib.Core.Path.{sym, ◌∙◌}
 use native.Mathlib.Omega.{arith}
 use Rattle.walk.specs.declared.Step.TheVariants as step
 use Rattle.walk.proofs.Walks.{step_means}
-use Rattle.chunk_index.proofs.Counting.{headers_stop, headers_end, counting_start, counting_on, counted_stop, counted-end}
+use Rattle.chunk_index.proofs.Counting.{ended, headers_stop, headers_ended, headers_end, counting_start, counting_on, counted_stop, counted-end}
 use Rattle.chunk_index.proofs.index.count_records.Goals as goal
 
 pub loop-chunk-init : goal.loop-chunk-init
@@ -14,14 +14,8 @@ loop-chunk-init c = counting_start _
 pub returns-in-RanOut : goal.returns-in-RanOut
 returns-in-RanOut c =
     let l = c.loop-chunk in
-    let w = step_means _ _ step.RanOut (sym c.in-RanOut.ensures) in
-    headers_stop l.invariant.headers l.count _ w (counted_stop l.invariant w)
-
-pub returns-in-Trailer : goal.returns-in-Trailer
-returns-in-Trailer c =
-    let l = c.loop-chunk in
-    let w = step_means _ _ step.Trailer (sym c.in-Trailer.ensures) in
-    headers_stop l.invariant.headers l.count _ w.is (counted_stop l.invariant w.is)
+    let w = ended _ _ (sym c.step_at.ensures) c.in-RanOut.is in
+    headers_ended l.invariant.headers l.count _ w (counted_stop l.invariant w.is)
 
 pub returns-in-UnknownTag : goal.returns-in-UnknownTag
 returns-in-UnknownTag c =
