@@ -1,32 +1,21 @@
 -- A seek, by what its questions and its search said; and its questions, by what each of them says. Assumes nothing.
 use mathlib.Core.Path.{◌≡◌, sym, ap, ◌∙◌}
-use Rattle.std.proofs.Common.{Result, Ok, Err}
-use Rattle.std.proofs.Common.{Option, Some, None}
+use Rattle.std.proofs.Common.{Option}
 use mathlib.Core.Bool.{true, false}
 use mathlib.Core.List.{List}
 use Prim.Native.Nat.{ℕ}
 use lib.Dec.{leb}
 use lib.IntN.{ℤ, pos}
 use Rattle.error.specs.Answer.{accepted, refused, numbered}
-use Rattle.error.specs.Refusal.{refusal_of, said}
-use Rattle.error.specs.declared.AmvError.{AmvError}
 use Rattle.error.specs.declared.Refusal.{Refusal}
 use Rattle.chunk_index.specs.Entry.{entries_of}
-use Rattle.chunk_index.specs.declared.entry.ChunkIndexEntry.{ChunkIndexEntry}
 use Rattle.demuxer.specs.Position.{in_range}
 use Rattle.demuxer.specs.declared.position.Position.{Position}
 use Rattle.demuxer.specs.declared.walker.Walker.{Walker}
 use Rattle.table.specs.Table.{table_questions}
-use Rattle.seek.specs.Seek.{seek_questions, find, past_last, moved_to, landed, seek_of}
-use Rattle.seek.specs.Steps.{least, found_of}
+use Rattle.seek.specs.Seek.{seek_questions, find, landed, seek_of}
+use Rattle.seek.specs.Steps.{least}
 use Rattle.seek.proofs.Records.{find-least}
-
-module _ (es : List ChunkIndexEntry) (w : Walker) (stream : ℕ) {f : Option Position} where
-  pub land_at : {p : Position} → f ≡ Some p → landed es w stream (found_of f) ≡ moved_to w stream p false
-  land_at e = ap (λ (g : Option Position). landed es w stream (found_of g)) e
-
-  pub land_nowhere : {p : Position} → f ≡ None → p ≡ past_last w.position es → landed es w stream (found_of f) ≡ moved_to w stream p true
-  land_nowhere e q = ap (λ (g : Option Position). landed es w stream (found_of g)) e ∙ ap (λ (p : Position). moved_to w stream p true) (sym q)
 
 -- ---- the questions, by the answers to them: first the stream's, then the table's, then the walker's
 
@@ -61,13 +50,8 @@ module _ (table : List ℕ) (w : Walker) (stream : ℕ) (z : ℤ) where
   unfolding seek_of
   when_accepted q = rw q
 
--- by what the code was told
-module _ (table : List ℕ) (w : Walker) (stream : ℕ) (z : ℤ) {r : Result Unit AmvError} (asked : said r ≡ seek_questions table w stream) where
-  pub seek_refused : {e : AmvError} → r ≡ Err e → seek_of table w stream z ≡ record { answer = refused (refusal_of e); walker = w }
-  seek_refused told = when_refused table w stream z (sym asked ∙ ap said told)
-
-  pub seek_lands : {found : Option Position} → r ≡ (Ok tt) → found ≡ find stream (pos (least z)) (entries_of table)
-      → seek_of table w stream z ≡ landed (entries_of table) w stream found
-  seek_lands told e =
-      when_accepted table w stream z (sym asked ∙ ap said told)
-      ∙ ap (landed (entries_of table) w stream) (sym (e ∙ find-least stream z (entries_of table)))
+-- where the questions pass, the search goes by the least stamp that reaches the request
+pub seek_lands : (table : List ℕ) (w : Walker) (stream : ℕ) (z : ℤ) {found : Option Position} → seek_questions table w stream ≡ accepted tt
+    → found ≡ find stream (pos (least z)) (entries_of table) → seek_of table w stream z ≡ landed (entries_of table) w stream found
+seek_lands table w stream z asked e =
+    when_accepted table w stream z asked ∙ ap (landed (entries_of table) w stream) (sym (e ∙ find-least stream z (entries_of table)))

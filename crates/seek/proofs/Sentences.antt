@@ -217,7 +217,7 @@ pub seek_sentences : SeekSentences
 seek_sentences =
     record {
       found = found;
-      None = not_found;
+      none = not_found;
       last = last;
       empty = empty;
       cut_stays =

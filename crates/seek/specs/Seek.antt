@@ -1,8 +1,6 @@
 -- The indexed seek. Assumes nothing.
 use Rattle.std.specs.Prelude.{ℕ, ◌+◌, Bool, true, false, cond, ◌&&◌, List, [], ◌∷◌, leb, eqb, ℤ, pos}
-use Rattle.std.specs.Prelude.{Result, Ok, Err}
 use Rattle.std.specs.Prelude.{Option, Some, None}
-use Rattle.error.specs.declared.AmvError.{AmvError}
 use Rattle.std.specs.Int.Signed.{le_z}
 use Rattle.chunk.specs.Chunk.{video_tag, audio_tag, stream_tag}
 use Rattle.chunk_index.specs.Entry.{entries_of}
@@ -11,7 +9,7 @@ use Rattle.demuxer.specs.Position.{in_range}
 use Rattle.demuxer.specs.declared.position.Position.{Position}
 use Rattle.demuxer.specs.declared.walker.Walker.{Walker}
 use Rattle.error.specs.Answer.{Answer, accepted, refused, ask, and_then}
-use Rattle.error.specs.Refusal.{refusal_of, said}
+use Rattle.error.specs.Refusal.{said}
 use Rattle.table.specs.Table.{table_questions}
 use Rattle.seek.specs.declared.SeekOutcome.{SeekOutcome}
 

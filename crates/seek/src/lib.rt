@@ -8,7 +8,7 @@ ghost use Rattle.chunk_index.specs.Entry.{entries_of};
 ghost use Rattle.chunk_index.specs.Steps.{Small};
 ghost use Rattle.seek.specs.Seek.{seek_questions, stamp_of, reaches, find, beyond, past_last};
 ghost use Rattle.seek.specs.Seek.{moved_to, landed, said_seek_outcome, seek_of};
-ghost use Rattle.seek.specs.Steps.{least, found_of};
+ghost use Rattle.seek.specs.Steps.{least};
 
 use chunk_index::entry::ChunkIndexEntry;
 use demuxer::position::{BlockCount, FrameStamp, Position};
@@ -17,39 +17,32 @@ use error::AmvError;
 use table::ask_table;
 
 // A seek's answer, the stamp, and the walker that the next call gets.
-#[derive(Clone, Copy)]
+#[derive(Clone, Copy, Debug, PartialEq, Eq)]
 pub struct SeekOutcome {
     pub result: Result<u64, AmvError>,
     pub walker: Walker,
 }
 
 // The questions of a seek. The stream's comes before the table's, so a stream that does not exist is told whatever the table is.
+#[tactic(auto, using(error::proofs::Answers::passed_on, table::proofs::Records::table_ok, table::proofs::Records::table_err), unfolding(crate::specs::Seek::seek_questions))]
 fn ask_seek(walker: Walker, table: &[u8], stream: u32) -> Result<(), AmvError>
     ensures { said result ≡ seek_questions table.now walker stream }
 {
     if 1 < stream {
         return Err(AmvError::NoSuchStream);
     }
-    match ask_table(table) {
-        Err(e) => Err(e),
-        Ok(_) => {
-            let position = walker.position;
-            if !position.in_range() {
-                return Err(AmvError::StateOutOfRange);
-            }
-            Ok(())
-        }
+    ask_table(table)?;
+    if !walker.position.in_range() {
+        return Err(AmvError::StateOutOfRange);
     }
+    Ok(())
 }
 
 // The least stamp that reaches a signed request.
 fn least_stamp(request: i64) -> u64
     ensures { result ≡ least request }
 {
-    if request < 0 {
-        return 0;
-    }
-    request as u64
+    if request < 0 { 0 } else { request as u64 }
 }
 
 // A stream's stamp at a position: frames for stream 0, samples for stream 1.
@@ -57,27 +50,22 @@ fn stamp_of(stream: u32, position: Position) -> u64
     ensures { result ≡ stamp_of stream position }
 {
     if stream == 0 {
-        return position.frames.0;
+        position.frames.0
+    } else {
+        position.samples.0
     }
-    position.samples.0
 }
 
 // Whether a record is of the stream and its stamp reaches a request.
 fn reaches_entry(stream: u32, request: u64, e: ChunkIndexEntry) -> bool
     ensures { result ≡ reaches stream (pos request) e }
 {
-    let tag = chunk::stream_tag(stream);
-    if e.tag != tag {
-        return false;
-    }
-    let position = e.position;
-    let stamp = stamp_of(stream, position);
-    request <= stamp
+    e.tag == chunk::stream_tag(stream) && request <= stamp_of(stream, e.position)
 }
 
 // The first record of a stream that reaches a request.
 fn find_entry(table: &[u8], stream: u32, request: u64) -> Option<Position>
-    ensures { found_of result ≡ find stream (pos request) (entries_of table.now) }
+    ensures { result ≡ find stream (pos request) (entries_of table.now) }
 {
     let mut at: usize = 0;
     let mut left = table.len();
@@ -85,8 +73,7 @@ fn find_entry(table: &[u8], stream: u32, request: u64) -> Option<Position>
         left -= ChunkIndexEntry::LEN;
         let e = ChunkIndexEntry::read(table, at);
         if reaches_entry(stream, request, e) {
-            let position = e.position;
-            return Some(position);
+            return Some(e.position);
         }
         at += ChunkIndexEntry::LEN;
     }
@@ -98,10 +85,7 @@ fn counted(count: u64, tag: u32, wanted: u32) -> u64
     requires { count ≤ u32_max }
     ensures { result ≡ cond (eqb tag wanted) (count + 1) count }
 {
-    if tag == wanted {
-        return count + 1;
-    }
-    count
+    if tag == wanted { count + 1 } else { count }
 }
 
 // The position past a record: one more frame or block, the samples as they were.
@@ -110,12 +94,11 @@ fn beyond_entry(e: ChunkIndexEntry) -> Position
     ensures { result ≡ beyond e }
 {
     let position = e.position;
-    let samples = position.samples;
     Position {
         cursor: position.cursor + 8,
         frames: FrameStamp(counted(position.frames.0, e.tag, chunk::VIDEO_CHUNK_TAG)),
-        samples,
         blocks: BlockCount(counted(position.blocks.0, e.tag, chunk::AUDIO_CHUNK_TAG)),
+        ..position
     }
 }
 
@@ -134,35 +117,30 @@ fn beyond_last(position: Position, table: &[u8]) -> Position
 fn moved_to(walker: Walker, stream: u32, position: Position, end: bool) -> SeekOutcome
     ensures { said_seek_outcome result ≡ moved_to walker stream position end }
 {
-    let trailer = walker.trailer;
-    let moved = Walker {
-        position,
-        end,
-        cut: walker.cut,
-        trailer,
-    };
     SeekOutcome {
         result: Ok(stamp_of(stream, position)),
-        walker: moved,
+        walker: Walker {
+            position,
+            end,
+            ..walker
+        },
     }
 }
 
 // Where the search leads.
 fn land(walker: Walker, table: &[u8], stream: u32, found: Option<Position>) -> SeekOutcome
-    ensures { said_seek_outcome result ≡ landed (entries_of table.now) walker stream (found_of found) }
+    ensures { said_seek_outcome result ≡ landed (entries_of table.now) walker stream found }
 {
     match found {
         Some(position) => moved_to(walker, stream, position, false),
-        None => {
-            let position = walker.position;
-            moved_to(walker, stream, beyond_last(position, table), true)
-        }
+        None => moved_to(walker, stream, beyond_last(walker.position, table), true),
     }
 }
 
 // Moves a walker to the first record of a stream whose stamp reaches a request, or past the last record with the end mark, without walking the
 // file. Refused in this order, with the walker as it was: a stream that is not 0 or 1 with 42, a table that is no whole number of records with
 // 41, a record of another tag or too many samples with 43 at its start, a position out of range with 32.
+#[tactic(auto, unfolding(crate::specs::Seek::seek_of))]
 pub fn seek_to_via_index(walker: Walker, table: &[u8], stream: u32, request: i64) -> SeekOutcome
     ensures { said_seek_outcome result ≡ seek_of table.now walker stream request }
 {

@@ -13,6 +13,7 @@ use lib.ListN.{length, take, drop, get_or, length-take, length-drop}
 use lib.Seq.{get_or-take}
 use mir.Syntax.{w16}
 use mir.Val.{to_z}
+use Rattle.std.proofs.lemmas.Bool.Decides.{nat_tests}
 use Rattle.error.specs.Answer.{Answer, accepted, refused, numbered, ask, and_then}
 use Rattle.error.specs.declared.Refusal.{Refusal}
 use Rattle.error.proofs.Answers.{never, accepted-same}
@@ -22,11 +23,6 @@ use Rattle.parse.specs.Preamble.{preamble_of, state_byte}
 use Rattle.parse.specs.declared.preamble.AmvAudioPreamble.{AmvAudioPreamble}
 use Rattle.sound.specs.Sound.{Decoder, Decoding, block_questions, decoded_from, decode_nibble, decode_nibbles, decode_of, nibbles, sample_questions, samples_of, start_of}
 use Rattle.sound.specs.Sentences.{count_in, index_in, level_in, after}
-
--- a question that is passed was answered with yes, and so were those after it
-passes : {A : Type 0} {x : A} (t : Bool) (number place : ℕ) (rest : Answer A) → ask t number place rest ≡ accepted x → (t ≡ true) × (rest ≡ accepted x)
-passes true number place rest e = (refl, e)
-passes false number place rest e = never (sym e)
 
 -- the preamble of a block that has one
 abbrev pub preamble_in : List ℕ → AmvAudioPreamble
@@ -60,36 +56,15 @@ pub record Asked (p : AmvAudioPreamble) (len room : ℕ) : Type 0 where
 
 pub asked : (p : AmvAudioPreamble) (len room : ℕ) → sample_questions p len room ≡ accepted tt → Asked p len room
 unfolding sample_questions
-asked p len room e =
-    let n = p.decoded_sample_count in
-    let third : Answer Unit = ask (leb n room) 73 0 (accepted tt) in
-    let one = passes (leb (state_byte 2 p) 88) 71 2 (ask (leb n (2 * (len - 8))) 72 4 third) e in
-    let two = passes (leb n (2 * (len - 8))) 72 4 third one.1 in
-    let three = passes (leb n room) 73 0 (accepted tt) two.1 in
-    record { index = leb-true _ _ one.0; enough = leb-true _ _ two.0; fits = leb-true _ _ three.0 }
+asked p len room e = record { index = grind (arith, nat_tests); enough = grind (arith, nat_tests); fits = grind (arith, nat_tests) }
 
--- ---- the answer, by those of the preamble and the questions
+-- ---- a block that all questions let pass
 
-pub has_preamble : (block : List ℕ) (p : AmvAudioPreamble) → preamble_of block ≡ accepted p → 8 ≤ length block
-unfolding preamble_of
-has_preamble block p e = leb-true _ _ (passes (leb 8 (length block)) 25 0 (accepted (preamble_in block)) e).0
-
-pub no-preamble : (block : List ℕ) (buffer : List ℤ) (r : Refusal) → preamble_of block ≡ refused r
-    → decode_of block buffer ≡ record { answer = refused r; samples = buffer }
+pub let_pass : (block : List ℕ) (buffer : List ℤ) (p : AmvAudioPreamble) → preamble_of block ≡ accepted p
+    → sample_questions p (length block) (length buffer) ≡ accepted tt
+    → decode_of block buffer ≡ record { answer = accepted p.decoded_sample_count; samples = samples_of block p ++ drop p.decoded_sample_count buffer }
 unfolding decode_of block_questions
-no-preamble block buffer r e = rw e refl
-
-module _ (block : List ℕ) (buffer : List ℤ) (p : AmvAudioPreamble) (is : preamble_of block ≡ accepted p) where
-  pub turned_away : (r : Refusal) → sample_questions p (length block) (length buffer) ≡ refused r
-      → decode_of block buffer ≡ record { answer = refused r; samples = buffer }
-  unfolding decode_of block_questions
-  turned_away r e = rw (is, e) refl
-
-  pub let_pass : sample_questions p (length block) (length buffer) ≡ accepted tt
-      → decode_of block buffer
-      ≡ record { answer = accepted p.decoded_sample_count; samples = samples_of block p ++ drop p.decoded_sample_count buffer }
-  unfolding decode_of block_questions
-  let_pass e = rw (is, e) refl
+let_pass block buffer p is e = rw (is, e) refl
 
 -- ---- how the call can end
 

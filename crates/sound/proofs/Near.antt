@@ -2,107 +2,41 @@
 -- and holding brings them no further apart; a nibble moves two decoders of one step index to one step index again. So it goes from nibble to
 -- nibble. Two blocks that differ in the starting level alone are answered alike and have the same nibbles.
 -- Assumes nothing.
-use mathlib.Core.Path.{◌≡◌, refl, sym, ap, ◌∙◌, subst}
-use mathlib.Core.Bool.{Bool, true, false, cond}
+use mathlib.Core.Path.{◌≡◌, refl, sym, ap, ◌∙◌}
 use mathlib.Core.List.{List, [], ◌∷◌, ◌++◌}
-use Prim.Native.Nat.{ℕ, zero, suc, ◌+◌, ◌-◌, ◌*◌, ◌%◌, ◌≤◌, ◌<◌}
+use Prim.Native.Nat.{ℕ, zero, suc, ◌+◌, ◌-◌, ◌*◌, ◌%◌, ◌≤◌}
 use native.Mathlib.Omega.{arith}
-use borrow.Author.Tests.{le-leb, lt-leb, lt-ltb, le-ltb}
-use lib.Dec.{leb, ltb}
-use lib.IntN.{ℤ, pos, negsuc, nat_abs, sub_ℕ, ◌+ℤ◌, ◌-ℤ◌, +ℤ_invr}
+use lib.Dec.{leb}
+use lib.IntN.{ℤ, nat_abs, +ℤ_invr}
 use lib.ListN.{length, take, drop, get_or}
 use lib.Seq.{get_or-drop, drop-drop}
+use Rattle.std.proofs.lemmas.Int.{ints}
+use Rattle.std.proofs.lemmas.Bool.Decides.{nat_tests}
 use Rattle.error.specs.Answer.{Answer, accepted, refused, ask}
 use Rattle.fields.specs.Le.{le, Bytes}
 use Rattle.fields.proofs.Laws.{le-drop}
 use Rattle.fields.proofs.Impossible.{impossible}
-use Rattle.sound.specs.Sound.{Decoding, decode_nibbles, decode_of, held, held_level, index_after, level_after, nibbles, rise, start_of, steps}
+use Rattle.sound.specs.Sound.{Decoding, decode_nibbles, decode_of, held_level, index_after, level_after, moved_by, nibbles, rise, start_of, steps}
 use Rattle.sound.specs.Sentences.{LevelAlone, StartingLevel, TwoCalls, apart, count_in, entry, index_in, level_in}
 use Rattle.sound.proofs.Blocks.{Passed, accept, block_cases, filled, gives_back, index_is, level-is, nibbles-enough, preamble_in}
-use Rattle.sound.proofs.Levels.{apart-sub, by_order, held-sub, standing, stands, sub-add, sub-sub, within}
 
 -- ---- one nibble
 
--- how far two natural numbers are apart
-abbrev gap : ℕ → ℕ → ℕ
-gap a b = (a - b) + (b - a)
+-- two levels, moved alike, are as far apart
+moved-near : (nibble : ℕ) (x y : ℤ) (by : ℕ) → apart (moved_by nibble x by) (moved_by nibble y by) ≤ apart x y
+moved-near nibble x y by = grind (arith, ints, nat_tests)
 
--- a number that is held is the least, or the most, or itself
-within_cases : (P : ℕ → Type 0) (least most n : ℕ) → (n < least → P least) → (least ≤ n → most < n → P most) → (least ≤ n → n ≤ most → P n)
-    → P (within least most n)
-within_cases P least most n low high among =
-    by_order n least
-    (λ h. rw (lt-ltb n least h) (low h))
-    (λ h.
-    rw (le-ltb n least h)
-    (by_order most n (λ l. rw (lt-ltb most n l) (high h l)) (λ l. rw (le-ltb most n l) (among h l))))
-
--- holding brings no two numbers further apart
-within-near : (least most a b : ℕ) → least ≤ most → gap (within least most a) (within least most b) ≤ gap a b
-within-near least most a b m =
-    within_cases (λ (x : ℕ). gap x (within least most b) ≤ gap a b) least most a
-    (λ h. within_cases (λ (y : ℕ). gap least y ≤ gap a b) least most b (λ l. omega arith) (λ l n. omega arith) (λ l n. omega arith))
-    (λ h i. within_cases (λ (y : ℕ). gap most y ≤ gap a b) least most b (λ l. omega arith) (λ l n. omega arith) (λ l n. omega arith))
-    (λ h i. within_cases (λ (y : ℕ). gap a y ≤ gap a b) least most b (λ l. omega arith) (λ l n. omega arith) (λ l n. omega arith))
-
--- a level that is moved, as a natural number
-abbrev moved : Bool → ℕ → ℕ → ℕ
-moved up n by = cond up (n + by) (n - by)
-
-moved-sub : (up : Bool) (n k by : ℕ) → by ≤ n → cond up (sub_ℕ n k +ℤ pos by) (sub_ℕ n k -ℤ pos by) ≡ sub_ℕ (moved up n by) k
-moved-sub true n k by h = sub-add n k by
-moved-sub false n k by h = sub-sub n k by h
-
-moved-near : (up : Bool) (a b by : ℕ) → by ≤ a → by ≤ b → gap (moved up a by) (moved up b by) ≤ gap a b
-moved-near true a b by h l = omega arith
-moved-near false a b by h l = omega arith
-
--- and one that is held
-held_level-sub : (n k : ℕ) → 32768 ≤ k → held_level (sub_ℕ n k) ≡ sub_ℕ (within (k - 32768) (k + 32767) n) k
-unfolding standing
-held_level-sub n k h =
-    ap (λ (z : ℤ). held z (pos 32767) (sub_ℕ n k)) (stands k (negsuc 32767) h)
-    ∙ ap (λ (z : ℤ). held (sub_ℕ (k - 32768) k) z (sub_ℕ n k)) (stands k (pos 32767) (omega arith))
-    ∙ held-sub (k - 32768) (k + 32767) n k
-
--- a level after a rise up or down, held
-abbrev next : Bool → ℤ → ℕ → ℤ
-next up z by = held_level (cond up (z +ℤ pos by) (z -ℤ pos by))
-
-next-sub : (up : Bool) (n k by : ℕ) → by ≤ n → 32768 ≤ k → next up (sub_ℕ n k) by ≡ sub_ℕ (within (k - 32768) (k + 32767) (moved up n by)) k
-next-sub up n k by h m = ap (λ (z : ℤ). held_level z) (moved-sub up n k by h) ∙ held_level-sub (moved up n by) k m
-
-next-near-sub : (up : Bool) (a b k by : ℕ) → by ≤ a → by ≤ b → 32768 ≤ k
-    → apart (next up (sub_ℕ a k) by) (next up (sub_ℕ b k) by) ≤ apart (sub_ℕ a k) (sub_ℕ b k)
-next-near-sub up a b k by h l m =
-    let least = k - 32768 in
-    let most = k + 32767 in
-    let x = within least most (moved up a by) in
-    let y = within least most (moved up b by) in
-    rw (next-sub up a k by h m, next-sub up b k by l m, apart-sub x y k, apart-sub a b k)
-    (omega (arith, within-near least most (moved up a by) (moved up b by) (omega arith), moved-near up a b by h l))
-
--- the number that stands for z leaves room below it
-standing_room : (k : ℕ) (z : ℤ) (by : ℕ) → nat_abs z + by ≤ k → by ≤ standing k z
-unfolding standing
-standing_room k (pos m) by h = omega arith
-standing_room k (negsuc m) by h = omega arith
-
--- any two levels, moved alike and held, come no further apart: natural numbers stand for both
-next-near : (up : Bool) (x y : ℤ) (by : ℕ) → apart (next up x by) (next up y by) ≤ apart x y
-next-near up x y by =
-    let k : ℕ = nat_abs x + nat_abs y + by + 32768 in
-    let e : x ≡ sub_ℕ (standing k x) k = stands k x (omega arith) in
-    let f : y ≡ sub_ℕ (standing k y) k = stands k y (omega arith) in
-    let h = next-near-sub up (standing k x) (standing k y) k by (standing_room k x by (omega arith)) (standing_room k y by (omega arith)) (omega arith) in
-    subst (λ (u : ℤ). apart (next up u by) (next up y by) ≤ apart u y) (sym e)
-    (subst (λ (v : ℤ). apart (next up (sub_ℕ (standing k x) k) by) (next up v by) ≤ apart (sub_ℕ (standing k x) k) v) (sym f) h)
+-- and holding brings them no further apart
+held-near : (x y : ℤ) → apart (held_level x) (held_level y) ≤ apart x y
+held-near x y = grind (arith, ints, nat_tests)
 
 -- ---- one nibble after another
 
 level-near : (nibble : ℕ) (x y : ℤ) (index : ℕ) → apart (level_after nibble x index) (level_after nibble y index) ≤ apart x y
 unfolding level_after
-level-near nibble x y index = next-near (ltb nibble 8) x y (rise (get_or steps index 0) (nibble % 8))
+level-near nibble x y index =
+    let by = rise (get_or steps index 0) (nibble % 8) in
+    omega (arith, held-near (moved_by nibble x by) (moved_by nibble y by), moved-near nibble x y by)
 
 -- equal levels are 0 apart
 same-near : (x y : ℤ) (d : ℕ) → x ≡ y → apart x y ≤ d
@@ -145,24 +79,11 @@ answer-is : (block : List ℕ) (buffer : List ℤ) → Bytes block
     → (decode_of block buffer).answer ≡ answer_by (length block) (index_in block) (count_in block) (length buffer)
 answer-is block buffer bytes =
     block_cases block buffer (λ (d : Decoding). d.answer ≡ answer_by (length block) (index_in block) (count_in block) (length buffer))
-    (λ h. rw (lt-leb 8 (length block) h))
-    (λ h i. rw (le-leb 8 (length block) h, lt-leb (index_in block) 88 (rw (index_is block bytes h) at i)))
-    (λ h i c.
-    rw (le-leb 8 (length block) h, le-leb (index_in block) 88 (rw (index_is block bytes h) at i), lt-leb (count_in block) (2 * (length block - 8)) c))
-    (λ h i c l.
-    rw (
-      le-leb 8 (length block) h,
-      le-leb (index_in block) 88 (rw (index_is block bytes h) at i),
-      le-leb (count_in block) (2 * (length block - 8)) c,
-      lt-leb (count_in block) (length buffer) l,
-    ))
-    (λ p.
-    rw (
-      le-leb 8 (length block) p.preamble,
-      le-leb (index_in block) 88 (rw (index_is block bytes p.preamble) at p.index),
-      le-leb (count_in block) (2 * (length block - 8)) p.enough,
-      le-leb (count_in block) (length buffer) p.fits,
-    ))
+    (λ h. grind (arith, nat_tests))
+    (λ h i. grind (arith, nat_tests, index_is block bytes h))
+    (λ h i c. grind (arith, nat_tests, index_is block bytes h))
+    (λ h i c l. grind (arith, nat_tests, index_is block bytes h))
+    (λ p. grind (arith, nat_tests, index_is block bytes p.preamble))
 
 same_answer : (a b : List ℕ) (buffer : List ℤ) → LevelAlone a b → Bytes a → Bytes b → (decode_of a buffer).answer ≡ (decode_of b buffer).answer
 same_answer a b buffer alone u v =

@@ -7,21 +7,22 @@ use mathlib.Core.List.{List, [], ◌∷◌}
 use Prim.Native.Nat.{ℕ, zero, suc, ◌+◌, ◌-◌, ◌*◌, ◌/◌, ◌%◌, ◌≤◌, ◌<◌, min}
 use native.Mathlib.Nat.{add-zero}
 use native.Mathlib.Omega.{arith}
-use borrow.Author.Tests.{eqb-false, lt-ltb, le-ltb, ltb-false}
-use lib.Dec.{eqb, ltb}
-use lib.IntN.{ℤ, pos, negsuc, nat_abs, ◌+ℤ◌, ◌-ℤ◌}
+use borrow.Author.Tests.{eqb-false}
+use lib.Dec.{eqb}
+use lib.IntN.{ℤ, pos, ◌+ℤ◌, ◌-ℤ◌}
 use lib.ListN.{length, take, drop, get_or, length-append, length-drop, get_or-append}
 use lib.Seq.{drop_at, get_or-drop, get_or-take}
 use mir.Syntax.{w16}
 use mir.Val.{SFits}
+use Rattle.std.proofs.lemmas.Int.{ints}
+use Rattle.std.proofs.lemmas.Bool.Decides.{nat_tests}
 use Rattle.error.specs.Answer.{Answer, accepted, refused, numbered, number_of, place_of}
 use Rattle.error.specs.Sentences.{RefusedBy}
 use Rattle.error.proofs.Answers.{never}
 use Rattle.fields.specs.Le.{Bytes}
-use Rattle.sound.specs.Sound.{Decoder, Decoding, decode_nibble, decode_nibbles, decode_of, held, held_level, index_after, level_after, moved_by, moves}
+use Rattle.sound.specs.Sound.{Decoder, Decoding, decode_nibble, decode_nibbles, decode_of, held_level, index_after, level_after, moved_by}
 use Rattle.sound.specs.Sound.{nibbles, rise, samples_of, steps}
 use Rattle.sound.specs.Sentences.{Decodable, SoundSentences, after, count_in, entry, index_in, nibble_in, rise_at}
-use Rattle.sound.proofs.Rows.{index-lower, index_raise}
 use Rattle.sound.proofs.Blocks.{Passed, accept, block_cases, filled, gives_back, index_is, nibbles-enough, preamble_in, samples_many, start_is}
 
 -- ---- a nibble is the half of a byte
@@ -132,43 +133,21 @@ same_room block buffer =
 -- ---- what is held
 
 fits : (z : ℤ) → SFits w16 (held_level z)
-fits (pos n) = go (ltb 32767 n) refl
-  where
-    go : (t : Bool) → ltb 32767 n ≡ t → SFits w16 (cond t (pos 32767) (pos n))
-    go true e = record { sfits = omega arith }
-    go false e = record { sfits = omega (arith, ltb-false 32767 n e) }
-fits (negsuc n) = go (ltb 32767 n) refl
-  where
-    go : (t : Bool) → ltb 32767 n ≡ t → SFits w16 (cond t (negsuc 32767) (negsuc n))
-    go true e = record { sfits = omega arith }
-    go false e = record { sfits = omega (arith, ltb-false 32767 n e) }
-
-within_88 : (z : ℤ) → nat_abs (held (pos 0) (pos 88) z) ≤ 88
-within_88 (negsuc n) = omega arith
-within_88 (pos n) = go (ltb n 0) (ltb 88 n) refl
-  where
-    go : (s t : Bool) → ltb 88 n ≡ t → nat_abs (cond s (pos 0) (cond t (pos 88) (pos n))) ≤ 88
-    go true t e = omega arith
-    go false true e = omega arith
-    go false false e = ltb-false 88 n e
+fits z = record { sfits = grind (arith, ints, nat_tests) }
 
 level-held : (nibble : ℕ) (level : ℤ) (index : ℕ) → SFits w16 (level_after nibble level index)
 unfolding level_after
 level-held nibble level index = fits (moved_by nibble level (rise (get_or steps index 0) (nibble % 8)))
 
-unmoved : (z : ℤ) → SFits w16 z → held_level z ≡ z
-unmoved (pos n) f = rw (le-ltb 32767 n (omega (arith, f.sfits)))
-unmoved (negsuc n) f = rw (le-ltb 32767 n (omega (arith, f.sfits)))
-
 goes_up : (nibble : ℕ) (level : ℤ) (index : ℕ) → nibble < 8 → SFits w16 (level +ℤ pos (rise_at index nibble))
     → level_after nibble level index ≡ level +ℤ pos (rise_at index nibble)
 unfolding level_after
-goes_up nibble level index h f = rw (lt-ltb nibble 8 h) (unmoved (level +ℤ pos (rise_at index nibble)) f)
+goes_up nibble level index h f = grind (arith, ints, nat_tests)
 
 goes_down : (nibble : ℕ) (level : ℤ) (index : ℕ) → 8 ≤ nibble → SFits w16 (level -ℤ pos (rise_at index nibble))
     → level_after nibble level index ≡ level -ℤ pos (rise_at index nibble)
 unfolding level_after
-goes_down nibble level index h f = rw (le-ltb nibble 8 h) (unmoved (level -ℤ pos (rise_at index nibble)) f)
+goes_down nibble level index h f = grind (arith, ints, nat_tests)
 
 -- magnitude by magnitude
 rounded : (step magnitude : ℕ) → magnitude < 8
@@ -183,36 +162,17 @@ rounded step (suc (suc (suc (suc (suc (suc zero)))))) h = (omega arith, omega ar
 rounded step (suc (suc (suc (suc (suc (suc (suc zero))))))) h = (omega arith, omega arith)
 rounded step (suc (suc (suc (suc (suc (suc (suc (suc m)))))))) h = absurd (omega arith)
 
-moves_down : (magnitude : ℕ) → magnitude < 4 → get_or moves magnitude (pos 0) ≡ negsuc 0
-moves_down zero h = refl
-moves_down (suc zero) h = refl
-moves_down (suc (suc zero)) h = refl
-moves_down (suc (suc (suc zero))) h = refl
-moves_down (suc (suc (suc (suc m)))) h = absurd (omega arith)
-
-moves_up : (k : ℕ) → k < 4 → get_or moves (4 + k) (pos 0) ≡ pos (2 * (4 + k - 3))
-moves_up zero h = refl
-moves_up (suc zero) h = refl
-moves_up (suc (suc zero)) h = refl
-moves_up (suc (suc (suc zero))) h = refl
-moves_up (suc (suc (suc (suc k)))) h = absurd (omega arith)
-
 index_down : (nibble index : ℕ) → index ≤ 88 → nibble % 8 < 4 → index_after nibble index ≡ index - 1
 unfolding index_after
-index_down nibble index h l = rw (moves_down (nibble % 8) l) (index-lower index h)
+index_down nibble index h l = grind (arith, ints, nat_tests)
 
 index_up : (nibble index : ℕ) → index ≤ 88 → 4 ≤ nibble % 8 → index_after nibble index ≡ min 88 (index + 2 * (nibble % 8 - 3))
 unfolding index_after
-index_up nibble index h l =
-    let e : nibble % 8 ≡ 4 + (nibble % 8 - 4) = omega arith in
-    let m : get_or moves (nibble % 8) (pos 0) ≡ pos (2 * (nibble % 8 - 3)) =
-    ap (λ (k : ℕ). get_or moves k (pos 0)) e ∙ moves_up (nibble % 8 - 4) (omega arith) ∙ ap (λ (k : ℕ). pos (2 * (k - 3))) (sym e)
-    in
-    rw m (index_raise index (2 * (nibble % 8 - 3)))
+index_up nibble index h l = grind (arith, ints, nat_tests)
 
 index_held : (nibble index : ℕ) → index_after nibble index ≤ 88
 unfolding index_after
-index_held nibble index = within_88 (pos index +ℤ get_or moves (nibble % 8) (pos 0))
+index_held nibble index = grind (arith, ints, nat_tests)
 
 -- ---- a refusal
 

@@ -7,52 +7,48 @@ use Prim.Native.Nat.{ℕ, suc, ◌+◌, ◌*◌, ◌-◌, ◌/◌, ◌%◌, ◌�
 use native.Mathlib.Omega.{arith}
 use lib.IntN.{ℤ}
 use lib.ListN.{length, take, drop, get_or, set, length-set}
+use lib.Signed.{mag}
 use lib.Seq.{drop-cons, sets, sets-eq}
+use mir.Syntax.{w16}
+use mir.Val.{to_z, of_z}
+use mir.ValLaws.{to_z-of_z}
 use Rattle.sound.specs.Sound.{Decoder, decode_nibble, decode_nibbles, nibbles}
-use Rattle.sound.specs.Steps.{Legal, decoder_of, level_of}
-use Rattle.sound.specs.declared.State.{State}
 
--- the buffer after the next samples, from a place of the block and a place of the buffer on
+-- the buffer after the next samples, from a byte and a place of the buffer on
 abbrev pub rest : List ℕ → List ℤ → Decoder → ℕ → ℕ → ℕ → List ℤ
-rest block samples d at i left = sets samples i (decode_nibbles d (take left (nibbles (drop at block))))
+rest bytes samples d i at left = sets samples at (decode_nibbles d (take left (nibbles (drop i bytes))))
 
 -- the two nibbles of a byte, as they stand
-abbrev pub first_of : List ℕ → ℕ → ℕ
-first_of block at = get_or block at 0 / 16
+abbrev pub first_of : ℕ → ℕ
+first_of byte = byte / 16
 
-abbrev pub second_of : List ℕ → ℕ → ℕ
-second_of block at = get_or block at 0 % 16
+abbrev pub second_of : ℕ → ℕ
+second_of byte = byte % 16
 
 -- the nibbles from a byte on are its two, and those of the bytes after it
-nibbles-at : (block : List ℕ) (at : ℕ) → at < length block
-    → nibbles (drop at block) ≡ first_of block at ∷ second_of block at ∷ nibbles (drop (suc at) block)
+nibbles-at : (bytes : List ℕ) (i : ℕ) → i < length bytes
+    → nibbles (drop i bytes) ≡ first_of (get_or bytes i 0) ∷ second_of (get_or bytes i 0) ∷ nibbles (drop (suc i) bytes)
 unfolding nibbles
-nibbles-at block at h = ap nibbles (drop-cons block at 0 h)
+nibbles-at bytes i h = ap nibbles (drop-cons bytes i 0 h)
 
 -- a whole byte
-pub turn : (block : List ℕ) (samples : List ℤ) (d d1 d2 : Decoder) (at i left : ℕ) → at < length block
-    → d1 ≡ decode_nibble (first_of block at) d → d2 ≡ decode_nibble (second_of block at) d1
-    → rest block samples d at i (suc (suc left)) ≡ rest block (set (set samples i d1.level) (suc i) d2.level) d2 (suc at) (suc (suc i)) left
+turn : (bytes : List ℕ) (samples : List ℤ) (d : Decoder) (i at left : ℕ) → i < length bytes
+    → let d1 = decode_nibble (first_of (get_or bytes i 0)) d in
+    let d2 = decode_nibble (second_of (get_or bytes i 0)) d1 in
+    rest bytes samples d i at (suc (suc left)) ≡ rest bytes (set (set samples at d1.level) (suc at) d2.level) d2 (suc i) (suc (suc at)) left
 unfolding decode_nibbles
-turn block samples d d1 d2 at i left h e1 e2 =
-    ap (λ (ns : List ℕ). sets samples i (decode_nibbles d (take (suc (suc left)) ns))) (nibbles-at block at h)
-    ∙ sym (λ j. after_both (e1 j) ((e2 ∙ ap (decode_nibble (second_of block at)) e1) j))
-  where
-    after_both : Decoder → Decoder → List ℤ
-    after_both x y = rest block (set (set samples i x.level) (suc i) y.level) y (suc at) (suc (suc i)) left
+turn bytes samples d i at left h = ap (λ (ns : List ℕ). sets samples at (decode_nibbles d (take (suc (suc left)) ns))) (nibbles-at bytes i h)
 
 -- the high nibble of the last byte
-pub last : (block : List ℕ) (samples : List ℤ) (d d1 : Decoder) (at i : ℕ) → at < length block → d1 ≡ decode_nibble (first_of block at) d
-    → rest block samples d at i 1 ≡ set samples i d1.level
+last : (bytes : List ℕ) (samples : List ℤ) (d : Decoder) (i at : ℕ) → i < length bytes
+    → rest bytes samples d i at 1 ≡ set samples at (decode_nibble (first_of (get_or bytes i 0)) d).level
 unfolding decode_nibbles
-last block samples d d1 at i h e1 =
-    ap (λ (ns : List ℕ). sets samples i (decode_nibbles d (take 1 ns))) (nibbles-at block at h)
-    ∙ ap (λ (x : Decoder). set samples i x.level) (sym e1)
+last bytes samples d i at h = ap (λ (ns : List ℕ). sets samples at (decode_nibbles d (take 1 ns))) (nibbles-at bytes i h)
 
 -- nothing is left
-pub done : (block : List ℕ) (samples : List ℤ) (d : Decoder) (at i : ℕ) → rest block samples d at i 0 ≡ samples
+done : (bytes : List ℕ) (samples : List ℤ) (d : Decoder) (i at : ℕ) → rest bytes samples d i at 0 ≡ samples
 unfolding decode_nibbles
-done block samples d at i = refl
+done bytes samples d i at = refl
 
 -- stored from the front, the samples stand before what the buffer had past them
 pub front : (buffer samples : List ℤ) → length samples ≤ length buffer → sets buffer 0 samples ≡ samples ++ drop (length samples) buffer
@@ -62,53 +58,43 @@ front buffer samples h =
 
 -- ---- the loop
 
--- between two turns: every two entries took a byte, and what is left to store makes the whole
-pub record Putting (block : List ℕ) (before : List ℤ) (first : State) (count : ℕ) (samples : List ℤ) (state : State) (at i left : ℕ) : Type 0 where
-  pub legal : Legal state
+-- a sample fits 16 bits, so it is stored as it is
+pub stored_is : (v : ℤ) (d : Decoder) → mag v < 32768 → v ≡ d.level → to_z w16 (of_z w16 v) ≡ d.level
+stored_is v d f e = to_z-of_z w16 v (record { sfits = f }) ∙ e
+
+-- between two turns: every byte left two samples, and what is left to store makes the whole
+pub record Putting (bytes : List ℕ) (before : List ℤ) (first : Decoder) (count : ℕ) (samples : List ℤ) (d : Decoder) (i : ℕ) : Type 0 where
   pub long : length samples ≡ length before
-  pub bytes : 2 * at ≡ 16 + i
-  pub counted : i + left ≡ count
-  pub left_is : rest block samples (decoder_of state) at i left ≡ rest block before (decoder_of first) 8 0 count
+  pub left_is : rest bytes samples d i (2 * i) (count - 2 * i) ≡ rest bytes before first 0 0 count
 
-module _ {block : List ℕ} {before : List ℤ} {first : State} {count : ℕ} {samples : List ℤ} {state : State} {at i left : ℕ}
-    (p : Putting block before first count samples state at i left) (enough : count ≤ 2 * (length block - 8)) where
-  -- where a sample is left there is a byte for it
-  pub there : 0 < left → at < length block
-  there h = omega (arith, p.bytes, p.counted)
-
+module _ {bytes : List ℕ} {before : List ℤ} {first : Decoder} {count : ℕ} {samples : List ℤ} {d : Decoder} {i : ℕ}
+    (p : Putting bytes before first count samples d i) where
   -- one turn
-  pub next : (s1 s2 : State) (v1 v2 : ℤ) → 2 ≤ left → decoder_of s1 ≡ decode_nibble (first_of block at) (decoder_of state)
-      → decoder_of s2 ≡ decode_nibble (second_of block at) (decoder_of s1) → Legal s2 → v1 ≡ level_of s1.level → v2 ≡ level_of s2.level
-      → Putting block before first count (set (set samples i v1) (i + 1) v2) s2 (at + 1) (i + 2) (left - 2)
-  next s1 s2 v1 v2 h e1 e2 l2 f1 f2 =
-      let one : i + 1 ≡ suc i = omega arith in
-      let two : i + 2 ≡ suc (suc i) = omega arith in
-      let byte : at + 1 ≡ suc at = omega arith in
-      let less : left ≡ suc (suc (left - 2)) = omega arith in
-      rw (one, two, byte, f1, f2)
-      (record {
-        legal = l2;
-        long = length-set (set samples i (level_of s1.level)) (suc i) (level_of s2.level) ∙ length-set samples i (level_of s1.level) ∙ p.long;
-        bytes = omega (arith, p.bytes);
-        counted = omega (arith, p.counted);
+  pub next : (d1 d2 : Decoder) (v1 v2 : ℤ) (byte : ℕ) → i < length bytes → i < count / 2 → byte ≡ get_or bytes i 0
+      → d1 ≡ decode_nibble (first_of byte) d → d2 ≡ decode_nibble (second_of byte) d1 → v1 ≡ d1.level → v2 ≡ d2.level
+      → Putting bytes before first count (set (set samples (2 * i) v1) (2 * i + 1) v2) d2 (i + 1)
+  next d1 d2 v1 v2 byte h l e e1 e2 f1 f2 =
+      let one : 2 * i + 1 ≡ suc (2 * i) = omega arith in
+      let two : 2 * (i + 1) ≡ suc (suc (2 * i)) = omega arith in
+      let more : i + 1 ≡ suc i = omega arith in
+      let less : count - 2 * i ≡ suc (suc (count - suc (suc (2 * i)))) = omega arith in
+      record {
+        long = length-set (set samples (2 * i) v1) (2 * i + 1) v2 ∙ length-set samples (2 * i) v1 ∙ p.long;
         left_is =
-            sym (turn block samples (decoder_of state) (decoder_of s1) (decoder_of s2) at i (left - 2) (there (omega arith)) e1 e2)
-            ∙ sym (ap (λ (n : ℕ). rest block samples (decoder_of state) at i n) less)
-            ∙ p.left_is;
-      })
+            rw (one, two, more, f1, f2, e2, e1, e)
+            (sym (turn bytes samples d i (2 * i) (count - suc (suc (2 * i))) h) ∙ sym (ap (λ (n : ℕ). rest bytes samples d i (2 * i) n) less) ∙ p.left_is);
+      }
 
   -- the last sample, of an odd count
-  pub odd_end : (s1 : State) (v1 : ℤ) → left ≡ 1 → decoder_of s1 ≡ decode_nibble (first_of block at) (decoder_of state) → v1 ≡ level_of s1.level
-      → set samples i v1 ≡ rest block before (decoder_of first) 8 0 count
-  odd_end s1 v1 e e1 f1 =
-      ap (λ (v : ℤ). set samples i v) f1
-      ∙ sym (last block samples (decoder_of state) (decoder_of s1) at i (there (omega arith)) e1)
-      ∙ sym (ap (λ (n : ℕ). rest block samples (decoder_of state) at i n) e)
-      ∙ p.left_is
+  pub odd_end : (d1 : Decoder) (v1 : ℤ) (byte : ℕ) → i < length bytes → count ≡ 2 * i + 1 → byte ≡ get_or bytes i 0
+      → d1 ≡ decode_nibble (first_of byte) d → v1 ≡ d1.level
+      → set samples (count - 1) v1 ≡ rest bytes before first 0 0 count
+  odd_end d1 v1 byte h n e e1 f1 =
+      let one : count - 2 * i ≡ 1 = omega arith in
+      let at : count - 1 ≡ 2 * i = omega arith in
+      rw (at, f1, e1, e) (sym (last bytes samples d i (2 * i) h) ∙ sym (ap (λ (n : ℕ). rest bytes samples d i (2 * i) n) one) ∙ p.left_is)
 
-  pub even-end : left ≡ 0 → samples ≡ rest block before (decoder_of first) 8 0 count
-  even-end e =
-      sym (done block samples (decoder_of state) at i) ∙ sym (ap (λ (n : ℕ). rest block samples (decoder_of state) at i n) e) ∙ p.left_is
-
-pub start : (block : List ℕ) (before : List ℤ) (first : State) (count : ℕ) → Legal first → Putting block before first count before first 8 0 count
-start block before first count l = record { legal = l; long = refl; bytes = refl; counted = omega arith; left_is = refl }
+  pub even-end : count ≡ 2 * i → samples ≡ rest bytes before first 0 0 count
+  even-end n =
+      let none : count - 2 * i ≡ 0 = omega arith in
+      sym (done bytes samples d i (2 * i)) ∙ sym (ap (λ (n : ℕ). rest bytes samples d i (2 * i) n) none) ∙ p.left_is

@@ -1,7 +1,7 @@
 // The stored table of rises.
 
 // How far a nibble moves the level: 8 rises for each of the 89 steps of IMA ADPCM, one for each magnitude.
-pub const RISES: [u16; 712] = [
+pub static RISES: [u16; 712] = [
     0, 1, 3, 4, 7, 8, 10, 11, 1, 3, 5, 7, 9, 11, 13, 15, 1, 3, 5, 7, 10, 12, 14, 16, 1, 3, 6, 8,
     11, 13, 16, 18, 1, 3, 6, 8, 12, 14, 17, 19, 1, 4, 7, 10, 13, 16, 19, 22, 1, 4, 7, 10, 14, 17,
     20, 23, 1, 4, 8, 11, 15, 18, 22, 25, 2, 6, 10, 14, 18, 22, 26, 30, 2, 6, 10, 14, 19, 23, 27,

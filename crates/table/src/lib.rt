@@ -25,21 +25,8 @@ fn whole_records(table: &[u8]) -> Result<(), AmvError>
 fn good_entry(e: ChunkIndexEntry) -> bool
     ensures { result ≡ good_entry e }
 {
-    let position = e.position;
-    if demuxer::position::COUNT_LIMIT <= position.samples.0 {
-        return false;
-    }
-    if e.tag == chunk::VIDEO_CHUNK_TAG {
-        return true;
-    }
-    e.tag == chunk::AUDIO_CHUNK_TAG
-}
-
-// The larger of two.
-fn larger(a: u64, b: u64) -> u64
-    ensures { result ≡ max a b }
-{
-    if a < b { b } else { a }
+    (e.tag == chunk::VIDEO_CHUNK_TAG || e.tag == chunk::AUDIO_CHUNK_TAG)
+        && e.position.samples.0 < demuxer::position::COUNT_LIMIT
 }
 
 // Refuses with 43 the first record of another tag or too many samples, at its start. The one pass answers the most samples too: a caller
@@ -56,19 +43,17 @@ fn good_entries(table: &[u8]) -> Result<u64, AmvError>
         if !good_entry(e) {
             return Err(AmvError::BadRecord(at as u64));
         }
-        let position = e.position;
-        most = larger(most, position.samples.0);
+        most = most.max(e.position.samples.0);
         at += ChunkIndexEntry::LEN;
     }
     Ok(most)
 }
 
 // Refuses a table with 41, then with 43, as whole_records and good_entries do, and answers the most samples of a record.
+#[tactic(auto, using(error::proofs::Answers::passed_on))]
 pub fn ask_table(table: &[u8]) -> Result<u64, AmvError>
     ensures { said result ≡ and_then (whole_records table.now) (λ _. pass_over 0 0 (entries_of table.now)) }
 {
-    match whole_records(table) {
-        Err(e) => Err(e),
-        Ok(()) => good_entries(table),
-    }
+    whole_records(table)?;
+    good_entries(table)
 }

@@ -35,5 +35,5 @@ returns-then-request-lt0 c = below c.args.request (rw (to_z-of_z w64 c.args.requ
 pub overflow_cast-result : goal.overflow_cast-result
 overflow_cast-result c = rw (to_z-of_z w64 c.args.request c.ranges.request) (above c.args.request c.ranges.request (rw (to_z-of_z w64 c.args.request c.ranges.request) at c.if-request-lt0.false))
 
-pub returns : goal.returns
-returns c = rw (to_z-of_z w64 c.args.request c.ranges.request) (same c.args.request (rw (to_z-of_z w64 c.args.request c.ranges.request) at c.if-request-lt0.false))
+pub returns-else-request-lt0 : goal.returns-else-request-lt0
+returns-else-request-lt0 c = rw (to_z-of_z w64 c.args.request c.ranges.request) (same c.args.request (rw (to_z-of_z w64 c.args.request c.ranges.request) at c.if-request-lt0.false))

@@ -1,41 +1,41 @@
--- `sound::decode_block` meets its contract. The preamble and the questions 71 to 73 are calls, and each way that they end is one of
--- `decode_of` (`no-preamble`, `turned_away`, `let_pass`).
+-- `sound::decode_block` meets its contract. The check follows the refusals by itself, through the definitions that the source names; of a block that
+-- is accepted, the samples stored from the front stand before what the buffer had past them (`filled`).
 -- Assumes nothing.
 use mathlib.Core.Path.{◌≡◌, sym, ap, ◌∙◌}
-use Rattle.error.specs.Refusal.{said}
-use Rattle.std.proofs.Common.{Result, Ok, Err}
-use Rattle.error.specs.declared.AmvError.{AmvError}
 use Prim.Native.Nat.{ℕ}
-use mathlib.Core.List.{List}
+use mathlib.Core.List.{List, ◌++◌}
+use native.Mathlib.Omega.{arith}
+use lib.ListN.{length, take, drop}
+use lib.Seq.{sets}
 use lib.IntN.{ℤ}
-use Rattle.error.specs.Answer.{accepted}
-use Rattle.sound.specs.Sound.{Decodes, Decoding, decode_of}
-use Rattle.sound.proofs.Blocks.{has_preamble, no-preamble, turned_away, let_pass}
+use Rattle.parse.specs.declared.preamble.AmvAudioPreamble.{AmvAudioPreamble}
+use Rattle.sound.specs.Sound.{Decoder, Decoding, decode_nibbles, nibbles, samples_of, start_of}
+use Rattle.sound.proofs.Blocks.{Asked, asked, length_decoded, nibbles-enough, let_pass}
+use Rattle.sound.proofs.Stores.{front}
 use Rattle.sound.proofs.decode_block.Goals as goal
 
--- a result and a buffer that are those of the definition
-decodes : (block : List ℕ) (before : List ℤ) (r : Result ℕ AmvError) (after : List ℤ)
-    → decode_of block before ≡ record { answer = said r; samples = after } → Decodes block before r after
-decodes block before r after e = record { answer = sym (ap {A = Decoding} (λ d. d.answer) e); samples = sym (ap {A = Decoding} (λ d. d.samples) e) }
+-- the samples stored from the front stand before what the buffer had past them
+filled : (p : AmvAudioPreamble) (block bytes : List ℕ) (buffer : List ℤ) (d : Decoder) → bytes ≡ drop 8 block → d ≡ start_of p
+    → Asked p (length block) (length buffer)
+    → sets buffer 0 (decode_nibbles d (take p.decoded_sample_count (nibbles bytes))) ≡ samples_of block p ++ drop p.decoded_sample_count buffer
+filled p block bytes buffer d b e a =
+    let n : length (samples_of block p) ≡ p.decoded_sample_count =
+    length_decoded (start_of p) (take p.decoded_sample_count (nibbles (drop 8 block))) ∙ nibbles-enough block p.decoded_sample_count a.enough
+    in
+    let fits = a.fits in
+    rw (b, e) (front buffer (samples_of block p) (omega arith) ∙ ap (λ (m : ℕ). samples_of block p ++ drop m buffer) n)
 
--- the preamble that was read is the one of the block: `c.in-Ok.ensures`, and `c.in-Err.ensures` that there is none
-pub ask_block-requires : goal.ask_block-requires
-ask_block-requires c = has_preamble c.args.block.now _ (sym c.in-Ok.ensures)
-
-pub returns-in-Err-ask_block : goal.returns-in-Err-ask_block
-returns-in-Err-ask_block c =
-    let a = c.args in
-    decodes a.block.now a.samples.now _ _ (turned_away a.block.now a.samples.now _ (sym c.in-Ok.ensures) _ (sym c.in-Err-ask_block.ensures))
-
-pub returns-in-Err : goal.returns-in-Err
-returns-in-Err c =
-    let a = c.args in
-    decodes a.block.now a.samples.now _ _ (no-preamble a.block.now a.samples.now _ (sym c.in-Err.ensures))
-
-pub returns-in_default : goal.returns-in_default
-returns-in_default c =
-    let a = c.args in
-    let p = c.in-Ok.preamble in
-    decodes a.block.now a.samples.now _ _
-    (let_pass a.block.now a.samples.now p (sym c.in-Ok.ensures) (sym c.in_default.ensures)
-    ∙ (λ i. record { answer = accepted p.decoded_sample_count; samples = sym c.put_block.ensures i }))
+pub returns : goal.returns
+returns c =
+    let block = c.args.block.now in
+    let samples = c.args.samples.now in
+    let p = c.in_ok-preamble.preamble in
+    let questions = sym c.in_ok-ask_block.ensures in
+    let all = let_pass block samples p (sym c.in_ok-preamble.ensures) questions in
+    record {
+      answer = sym (ap {A = Decoding} (λ d. d.answer) all);
+      samples =
+          c.put_samples.ensures
+          ∙ filled p block _ samples _ c.split_at.ensures.back c.start.ensures (asked p _ _ questions)
+          ∙ sym (ap {A = Decoding} (λ d. d.samples) all);
+    }

@@ -38,7 +38,7 @@ loop-left-preserved c =
     let g = sym c.good_entry.ensures ∙ c.if-not-good_entry.false in
     let rest = entries_from ((l.left - entry_len) / entry_len) t (l.at + entry_len) in (
       omega arith,
-      ap (λ (m : ℕ). pass_over (l.at + entry_len) m rest) c.larger-most.ensures
+      ap (λ (m : ℕ). pass_over (l.at + entry_len) m rest) c.max-most.ensures
           ∙ sym (pass_on t l.at l.left (omega arith) r.read-e.ensures l.most g) ∙ l.invariant.1,
     )
 
