@@ -45,4 +45,3 @@ check_chunks file = check_from start (all_paired file) (file_walk file)
 -- "10 to 24 as above; then per chunk"
 unfoldable pub check_of : List ℕ → Answer Totals
 check_of file = and_then (strict_of file) (λ _. check_chunks file)
-

@@ -16,7 +16,7 @@ use prelude::prelude::AmvPrelude;
 use walk::{Step, step_at};
 
 // What the check answers of a finished recording.
-#[derive(Clone, Copy)]
+#[derive(Clone, Copy, Debug, PartialEq, Eq)]
 pub struct Totals {
     pub frames: u64,
     pub blocks: u64,
@@ -31,22 +31,13 @@ pub struct Totals {
 fn paired_on(paired: bool, tag: u32, number: u64) -> bool
     ensures { result ≡ (paired && passes (interleave_at (kind_of tag) number)) }
 {
-    if !paired {
-        return false;
-    }
-    match interleave_at(tag, number) {
-        Ok(()) => true,
-        Err(_) => false,
-    }
+    paired && interleave_at(tag, number).is_ok()
 }
 
 fn paired_all(paired: bool, count: u64) -> bool
     ensures { result ≡ (paired && even count) }
 {
-    if !paired {
-        return false;
-    }
-    count % 2 == 0
+    paired && count % 2 == 0
 }
 
 // The verdict at the trailer: it must be the file's last 8 bytes.
@@ -77,21 +68,14 @@ fn check_chunks(file: &[u8]) -> Result<Totals, AmvError>
     loop {
         let number = position.frames.0 + position.blocks.0;
         match step_at(file, position.cursor as usize) {
-            Step::RanOut => {
-                return Err(AmvError::ChunkCut(position.cursor));
-            }
-            Step::Trailer => {
-                return check_trailer(file, position, paired_all(paired, number));
-            }
-            Step::UnknownTag => {
-                return Err(AmvError::UnknownTag(position.cursor));
-            }
+            Step::RanOut => return Err(AmvError::ChunkCut(position.cursor)),
+            Step::Trailer => return check_trailer(file, position, paired_all(paired, number)),
+            Step::UnknownTag => return Err(AmvError::UnknownTag(position.cursor)),
             Step::Chunk(chunk) => {
                 if chunk.missing != 0 {
                     return Err(AmvError::ChunkCut(position.cursor));
                 }
-                let kind = chunk.kind;
-                paired = paired_on(paired, kind.tag(), number);
+                paired = paired_on(paired, chunk.kind.tag(), number);
                 position = chunk.past(file, position);
             }
         }
@@ -100,11 +84,10 @@ fn check_chunks(file: &[u8]) -> Result<Totals, AmvError>
 
 // Whether a file is a finished recording: its totals. Refuses what the prelude's strict reading refuses (10 to 24); then, at a chunk, fewer
 // than 8 bytes or a cut payload (60), bytes after the trailer (61) and an unknown tag (31).
+#[tactic(auto, using(error::proofs::Answers::passed_on), unfolding(crate::specs::Check::check_of))]
 pub fn check(file: &[u8]) -> Result<Totals, AmvError>
     ensures { said result ≡ check_of file.now }
 {
-    match AmvPrelude::parse_strict(file) {
-        Err(e) => Err(e),
-        Ok(_) => check_chunks(file),
-    }
+    AmvPrelude::parse_strict(file)?;
+    check_chunks(file)
 }
