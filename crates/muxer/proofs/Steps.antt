@@ -1,6 +1,5 @@
 -- What the writer's functions cite: room, the questions asked first, and bytes put one after another. Assumes nothing.
 use mathlib.Core.Path.{◌≡◌, refl, sym, ap, ◌∙◌}
-use Rattle.std.proofs.Common.{Result, Ok, Err}
 use mathlib.Core.Bool.{Bool, true, false, not, ◌&&◌}
 use mathlib.Core.List.{List, ◌++◌, append_assoc}
 use Prim.Native.Nat.{ℕ, ◌+◌, ◌≤◌, ◌<◌, min}
@@ -9,18 +8,20 @@ use borrow.Author.Tests.{le-leb, leb-true, not-true}
 use lib.Dec.{leb}
 use lib.ListN.{length, length-append}
 use Rattle.chunk.specs.Chunk.{stream_tag, payload_limit}
+use Rattle.std.specs.Prelude.{Result, Ok, Err, IsErr, IsErrAnd}
+use Rattle.std.proofs.lemmas.Result.{err_from_is_err_and}
 use Rattle.error.specs.Answer.{Answer, accepted, refused, ask, and_then}
 use Rattle.error.specs.Refusal.{refusal_of, said}
 use Rattle.error.specs.declared.AmvError.{AmvError}
-use Rattle.error.proofs.Answers.{then_ok, then_err, ask-passed, both}
+use Rattle.error.specs.declared.Refusal.{Refusal}
+use Rattle.error.proofs.Answers.{never, accepted-same, then-passed, ask-passed, both}
 use Rattle.fields.specs.File.{file_limit}
 use Rattle.fields.specs.Le.{le_bytes, put}
 use Rattle.fields.proofs.Laws.{put-put, length-le_bytes}
 use Rattle.prelude.specs.Layout.{prelude_len}
 use Rattle.muxer.specs.Writer.{outcome, MeetsOutcome, fits, has_prelude, packet_bytes, ask_open, packet_questions, trailer_questions, header_questions}
-use Rattle.muxer.specs.Steps.{accepted_with, refused_with}
+use Rattle.muxer.specs.Steps.{told}
 use Rattle.muxer.specs.declared.Writer.{Writer}
-use Rattle.muxer.specs.declared.Wrote.{Wrote}
 
 -- ---- room
 
@@ -52,15 +53,13 @@ three p rest true false c = refl
 three p rest true true false = refl
 three p rest true true true = refl
 
-open_and : (w : Writer) (rest : Answer Unit) → ask_open w rest ≡ and_then (ask_open w (accepted tt)) (λ _. rest)
-open_and w rest = three w.written rest w.begun (not w.ended) (has_prelude w)
+-- what they refuse is refused, whatever is asked after them
+pub open_err : (w : Writer) (rest : Answer Unit) {r : Refusal} → refused r ≡ ask_open w (accepted tt) → ask_open w rest ≡ refused r
+open_err w rest e = three w.written rest w.begun (not w.ended) (has_prelude w) ∙ ap (λ (x : Answer Unit). and_then x (λ _. rest)) (sym e)
 
-pub open_ok : {r : Result Unit AmvError} (w : Writer) (rest : Answer Unit) → said r ≡ ask_open w (accepted tt) → r ≡ (Ok tt) → ask_open w rest ≡ rest
-open_ok w rest s e = open_and w rest ∙ then_ok (λ _. rest) s e
-
-pub open_err : {r : Result Unit AmvError} {e : AmvError} (w : Writer) (rest : Answer Unit) → said r ≡ ask_open w (accepted tt) → r ≡ Err e
-    → ask_open w rest ≡ refused (refusal_of e)
-open_err w rest s e = open_and w rest ∙ then_err (λ _. rest) s e
+-- where they pass, what is asked after them decides
+pub open_ok : (w : Writer) (rest : Answer Unit) → accepted tt ≡ ask_open w (accepted tt) → ask_open w rest ≡ rest
+open_ok w rest e = three w.written rest w.begun (not w.ended) (has_prelude w) ∙ ap (λ (x : Answer Unit). and_then x (λ _. rest)) (sym e)
 
 -- ---- bytes
 
@@ -145,27 +144,33 @@ trailer-passed w room h =
     let d = fits-ends (w.written + 8) room a.0 in
     record { ready = o.0; inside = d.0; limit = d.1 }
 
+-- the questions of a packet give its length: where they refuse, and where they pass
+pub length_err : (q : Answer Unit) (n : ℕ) {r : Refusal} → refused r ≡ and_then q (λ _. accepted n) → refused r ≡ q
+length_err (accepted u) n e = never (sym e)
+length_err (refused s) n e = cc
+
+pub length_ok : (q : Answer Unit) (n : ℕ) {m : ℕ} → accepted m ≡ and_then q (λ _. accepted n) → (q ≡ accepted tt) × (n ≡ m)
+length_ok q n e = let p = then-passed q (λ _. accepted n) (sym e) in (p.0, accepted-same p.1)
+
 -- ---- a call's two ends
 
-pub told_ok : {q : Answer Unit} {s : Result Unit AmvError} → said s ≡ q → s ≡ (Ok tt) → q ≡ accepted tt
-told_ok p e = sym p ∙ ap said e
-
-module _ {q : Answer Unit} {s : Result Unit AmvError} (w : Writer) (buf : List ℕ) (next : Writer) (after : List ℕ) where
-  pub meets_ok : {r : Wrote} {writer : Writer} {buffer : List ℕ} → said s ≡ q → s ≡ (Ok tt) → r ≡ accepted_with writer → writer ≡ next → buffer ≡ after
-      → MeetsOutcome (outcome q w buf next after) r buffer
-  meets_ok p e g a b =
-      let k : accepted tt ≡ q = sym (told_ok p e) in
+module _ {q : Answer Unit} (w : Writer) (buf : List ℕ) (next : Writer) (after : List ℕ) where
+  pub meets_err : (e : AmvError) (r : Result Writer AmvError) → refused (refusal_of e) ≡ q → (IsErr r × IsErrAnd r (λ y. y ≡ e))
+      → MeetsOutcome (outcome q w buf next after) (told w r) buf
+  meets_err e r k h =
+      let p = err_from_is_err_and r h.1 in
+      let d : r ≡ Err e = p.1 ∙ ap Err p.2 in
       record {
-        answer = ap (λ (x : Wrote). said x.result) g ∙ ap (λ (x : Answer Unit). (outcome x w buf next after).answer) k;
-        writer = ap (λ (x : Wrote). x.writer) g ∙ a ∙ ap (λ (x : Answer Unit). (outcome x w buf next after).writer) k;
-        buffer = b ∙ ap (λ (x : Answer Unit). (outcome x w buf next after).buffer) k;
+        answer = ap (λ (x : Result Writer AmvError). said (told w x).result) d ∙ ap (λ (x : Answer Unit). (outcome x w buf next after).answer) k;
+        writer = ap (λ (x : Result Writer AmvError). (told w x).writer) d ∙ ap (λ (x : Answer Unit). (outcome x w buf next after).writer) k;
+        buffer = ap (λ (x : Answer Unit). (outcome x w buf next after).buffer) k;
       }
 
-  pub meets_err : {e : AmvError} {r : Wrote} → said s ≡ q → s ≡ Err e → r ≡ refused_with e w → MeetsOutcome (outcome q w buf next after) r buf
-  meets_err {e} p d g =
-      let k : refused (refusal_of e) ≡ q = sym (ap said d) ∙ p in
+  pub meets_ok : {writer : Writer} {buffer : List ℕ} → accepted tt ≡ q → writer ≡ next → buffer ≡ after
+      → MeetsOutcome (outcome q w buf next after) (told w (Ok writer)) buffer
+  meets_ok k a b =
       record {
-        answer = ap (λ (x : Wrote). said x.result) g ∙ ap (λ (x : Answer Unit). (outcome x w buf next after).answer) k;
-        writer = ap (λ (x : Wrote). x.writer) g ∙ ap (λ (x : Answer Unit). (outcome x w buf next after).writer) k;
-        buffer = ap (λ (x : Answer Unit). (outcome x w buf next after).buffer) k;
+        answer = ap (λ (x : Answer Unit). (outcome x w buf next after).answer) k;
+        writer = a ∙ ap (λ (x : Answer Unit). (outcome x w buf next after).writer) k;
+        buffer = b ∙ ap (λ (x : Answer Unit). (outcome x w buf next after).buffer) k;
       }

@@ -2,29 +2,24 @@
 #![tactic(auto)]
 
 ghost use Rattle.std.specs.Prelude.{◌≡◌, ◌+◌, ◌≤◌, length};
-ghost use Rattle.chunk.specs.Chunk.{advance_total, payload_limit, trailer_bytes};
-ghost use Rattle.error.specs.Answer.{accepted};
+ghost use Rattle.chunk.specs.Chunk.{advance_total};
+ghost use Rattle.error.specs.Answer.{accepted, ask, and_then};
 ghost use Rattle.error.specs.Refusal.{said};
-ghost use Rattle.fields.specs.File.{file_limit};
 ghost use Rattle.fields.specs.Le.{put};
 ghost use Rattle.prelude.specs.Built.{prelude_bytes};
 ghost use Rattle.prelude.specs.Layout.{prelude_len};
 ghost use Rattle.muxer.specs.Writer.{fresh, fits, frames_after, packet_bytes, patch_run_length, ask_open, header_questions, packet_questions};
-ghost use Rattle.muxer.specs.Writer.{trailer_questions, after_header, after_packet, after_trailer, header_call, packet_call, trailer_call, MeetsOutcome};
-ghost use Rattle.muxer.specs.Steps.{accepted_with, refused_with};
+ghost use Rattle.muxer.specs.Writer.{trailer_questions, header_call, packet_call, trailer_call, MeetsOutcome};
+ghost use Rattle.muxer.specs.Steps.{told};
 
-use chunk::PAYLOAD_LIMIT;
 use duration::AmvDuration;
 use error::AmvError;
 use fields::file::FILE_LIMIT;
 use prelude::build::build_prelude_bytes;
 use prelude::prelude::AmvPrelude;
 
-// The most frames that a writer counts: the largest u64.
-const FRAME_LIMIT: u64 = 18446744073709551615;
-
 // What a new file holds.
-#[derive(Clone, Copy)]
+#[derive(Clone, Copy, Debug, PartialEq, Eq)]
 pub struct Settings {
     pub width: u32,
     pub height: u32,
@@ -35,7 +30,7 @@ pub struct Settings {
 
 // The state of writing, which every call returns anew: the settings, what has been written and how far, and the frames so far. The bytes
 // stay in the caller's buffer.
-#[derive(Clone, Copy)]
+#[derive(Clone, Copy, Debug, PartialEq, Eq)]
 pub struct Writer {
     pub settings: Settings,
     pub begun: bool,
@@ -45,87 +40,38 @@ pub struct Writer {
 }
 
 // A call's answer and the state that the next call gets.
-#[derive(Clone, Copy)]
+#[derive(Clone, Copy, Debug, PartialEq, Eq)]
 pub struct Wrote {
     pub result: Result<(), AmvError>,
     pub writer: Writer,
 }
 
-// Whether len bytes from an offset on end at or before the buffer's end and the file limit. The sum may be past a u64.
-fn has_room(room: usize, off: u64, len: u64) -> bool
-    ensures { result ≡ fits (off + len) room }
-{
-    let limit = (room as u64).min(FILE_LIMIT);
-    if limit < off {
-        return false;
-    }
-    if limit - off < len {
-        return false;
-    }
-    true
-}
-
-// A packet's length in the file: a chunk's, from its payload's.
-fn packet_len(size: usize) -> u64
-    requires { size ≤ payload_limit }
-    ensures { result ≡ advance_total size }
-{
-    chunk::advance_total(size as u32)
-}
-
-// A payload's length as its header has it.
-fn payload_size(payload: &[u8]) -> u32
-    requires { length payload.now ≤ payload_limit }
-    ensures { result ≡ length payload.now }
-{
-    payload.len() as u32
-}
-
-// A frame counts one, up to the largest u64.
-fn frames_after(stream: u32, frames: u64) -> u64
-    ensures { result ≡ frames_after stream frames }
-{
-    if stream == 0 {
-        frames.min(FRAME_LIMIT - 1) + 1
-    } else {
-        frames
-    }
-}
-
 // A packet's bytes at an offset: tag, length, payload.
-fn put_packet(buf: &mut [u8], off: usize, payload: &[u8], stream: u32)
-    requires payload_in_bounds { off + advance_total (length payload.now) ≤ length buf.old }
-    requires payload_len_bound { length payload.now ≤ payload_limit }
+fn put_packet(buf: &mut [u8], off: usize, stream: u32, size: u32, payload: &[u8])
+    requires size_is { size ≡ length payload.now }
+    requires in_bounds { off + advance_total size ≤ length buf.old }
     ensures { buf.new ≡ put buf.old off (packet_bytes stream payload.now) }
 {
     fields::write_le::<u32>(buf, off, chunk::stream_tag(stream));
-    fields::write_le::<u32>(buf, off + 4, payload_size(payload));
+    fields::write_le::<u32>(buf, off + 4, size);
     fields::copy_in(buf, off + 8, payload);
 }
 
-// The trailer's bytes at an offset.
-fn put_trailer(buf: &mut [u8], off: usize)
-    requires { off + 8 ≤ length buf.old }
-    ensures { buf.new ≡ put buf.old off trailer_bytes }
-{
-    fields::copy_in(buf, off, b"AMV_END_");
-}
-
 impl Wrote {
-    // A call that has gone through.
-    fn accepted(writer: Writer) -> Wrote
-        ensures { result ≡ accepted_with writer }
+    // A call's answer, and the state that the next call gets: the new one, or where the call is refused the one that it was given.
+    fn told(before: Writer, next: Result<Writer, AmvError>) -> Wrote
+        ensures { result ≡ told before next }
     {
-        let result = Ok(());
-        Wrote { result, writer }
-    }
-
-    // A call that is refused, with the state it was given.
-    fn refused(e: AmvError, writer: Writer) -> Wrote
-        ensures { result ≡ refused_with e writer }
-    {
-        let result = Err(e);
-        Wrote { result, writer }
+        match next {
+            Ok(writer) => Wrote {
+                result: Ok(()),
+                writer,
+            },
+            Err(e) => Wrote {
+                result: Err(e),
+                writer: before,
+            },
+        }
     }
 }
 
@@ -143,8 +89,7 @@ impl Settings {
             self.rate,
             self.channels,
         );
-        let bytes = built.bytes;
-        fields::copy_in(buf, 0, &bytes);
+        fields::copy_in(buf, 0, &built.bytes);
     }
 }
 
@@ -165,7 +110,19 @@ impl Writer {
         }
     }
 
+    // The question of room: len bytes from an offset on end at or before the buffer's end and the file limit. The sum may be past a u64.
+    fn ask_room(self, off: u64, len: u64, room: usize) -> Result<(), AmvError>
+        ensures { said result ≡ ask (fits (off + len) room) 54 self.written (accepted tt) }
+    {
+        let limit = (room as u64).min(FILE_LIMIT);
+        if off.saturating_add(len) > limit {
+            return Err(AmvError::NoRoom(self.written));
+        }
+        Ok(())
+    }
+
     // The questions of a header. A writer that has not begun has no prelude to miss, so 56 needs no test.
+    #[tactic(auto, unfolding(crate::specs::Writer::header_questions))]
     fn ask_header(self, room: usize) -> Result<(), AmvError>
         ensures { said result ≡ header_questions self room }
     {
@@ -175,11 +132,7 @@ impl Writer {
         if self.ended {
             return Err(AmvError::AlreadyEnded(self.written));
         }
-        if has_room(room, 0, Writer::START) {
-            Ok(())
-        } else {
-            Err(AmvError::NoRoom(self.written))
-        }
+        self.ask_room(0, Writer::START, room)
     }
 
     // What a packet and the trailer both ask first.
@@ -198,100 +151,93 @@ impl Writer {
         Ok(())
     }
 
-    // The questions of a packet.
-    fn ask_packet(self, size: usize, stream: u32, room: usize) -> Result<(), AmvError>
-        ensures { said result ≡ packet_questions self size stream room }
+    // The questions of a packet, of its payload's length and its stream. Gives the length as the packet's header has it.
+    #[tactic(auto, using(error::proofs::Answers::passed_on, crate::proofs::Steps::open_ok, crate::proofs::Steps::open_err), unfolding(crate::specs::Writer::packet_questions))]
+    fn ask_packet(self, len: usize, stream: u32, room: usize) -> Result<u32, AmvError>
+        ensures { said result ≡ and_then (packet_questions self len stream room) (λ _. accepted len) }
     {
-        if let Err(e) = self.ask_open() {
-            return Err(e);
-        }
-        if size > PAYLOAD_LIMIT {
+        self.ask_open()?;
+        let Ok(size) = u32::try_from(len) else {
             return Err(AmvError::PayloadTooLong(self.written));
-        }
+        };
         if stream > 1 {
             return Err(AmvError::PacketOfNoStream(self.written));
         }
-        if has_room(room, self.written, packet_len(size)) {
-            Ok(())
-        } else {
-            Err(AmvError::NoRoom(self.written))
-        }
+        self.ask_room(self.written, chunk::advance_total(size), room)?;
+        Ok(size)
     }
 
     // The questions of the trailer.
+    #[tactic(auto, using(error::proofs::Answers::passed_on, crate::proofs::Steps::open_ok, crate::proofs::Steps::open_err), unfolding(crate::specs::Writer::trailer_questions))]
     fn ask_trailer(self, room: usize) -> Result<(), AmvError>
         ensures { said result ≡ trailer_questions self room }
     {
-        if let Err(e) = self.ask_open() {
-            return Err(e);
-        }
-        if has_room(room, self.written, 8) {
-            Ok(())
+        self.ask_open()?;
+        self.ask_room(self.written, 8, room)
+    }
+
+    // The frames after a packet of a stream: a frame counts one, up to the largest u64.
+    fn frames_after(self, stream: u32) -> u64
+        ensures { result ≡ frames_after stream self.frames }
+    {
+        if stream == 0 {
+            self.frames.saturating_add(1)
         } else {
-            Err(AmvError::NoRoom(self.written))
-        }
-    }
-
-    // The state after a header.
-    fn after_header(self) -> Writer
-        ensures { result ≡ after_header self }
-    {
-        let settings = self.settings;
-        Writer {
-            settings,
-            begun: true,
-            ended: self.ended,
-            written: Writer::START,
-            frames: self.frames,
-        }
-    }
-
-    // The state after a packet that fits.
-    fn after_packet(self, size: usize, stream: u32) -> Writer
-        requires size_bound { self.written + advance_total size ≤ file_limit }
-        requires size_le_payload_limit { size ≤ payload_limit }
-        ensures { result ≡ after_packet self size stream }
-    {
-        let settings = self.settings;
-        Writer {
-            settings,
-            begun: self.begun,
-            ended: self.ended,
-            written: self.written + packet_len(size),
-            frames: frames_after(stream, self.frames),
-        }
-    }
-
-    // The state after the trailer.
-    fn after_trailer(self) -> Writer
-        requires { self.written + 8 ≤ file_limit }
-        ensures { result ≡ after_trailer self }
-    {
-        let settings = self.settings;
-        Writer {
-            settings,
-            begun: self.begun,
-            ended: true,
-            written: self.written + 8,
-            frames: self.frames,
+            self.frames
         }
     }
 
     // The run length of the frames so far, where there is one.
+    #[tactic(auto, unfolding(crate::specs::Writer::patch_run_length))]
     fn patch_run_length(self, buf: &mut [u8])
         requires { 88 ≤ length buf.old }
         ensures { buf.new ≡ patch_run_length self buf.old }
     {
-        let settings = self.settings;
-        let fps = settings.fps;
-        if fps == 0 {
+        if self.settings.fps == 0 || self.frames == 0 {
             return;
         }
-        if self.frames == 0 {
-            return;
-        }
-        let run_length = AmvDuration::from_frame_count(self.frames, fps);
+        let run_length = AmvDuration::from_frame_count(self.frames, self.settings.fps);
         fields::write_le::<u32>(buf, 84, run_length.to_packed());
+    }
+
+    // The header, and the state after it.
+    fn header(self, buf: &mut [u8]) -> Result<Writer, AmvError>
+        ensures { MeetsOutcome (header_call self buf.old) (told self result) buf.new }
+    {
+        self.ask_header(buf.len())?;
+        self.settings.put_prelude(buf);
+        Ok(Writer {
+            begun: true,
+            written: Writer::START,
+            ..self
+        })
+    }
+
+    // A packet, and the state after it.
+    fn packet(self, buf: &mut [u8], payload: &[u8], stream: u32) -> Result<Writer, AmvError>
+        ensures { MeetsOutcome (packet_call self payload.now stream buf.old) (told self result) buf.new }
+    {
+        let size = self.ask_packet(payload.len(), stream, buf.len())?;
+        put_packet(buf, self.written as usize, stream, size, payload);
+        Ok(Writer {
+            written: self.written + chunk::advance_total(size),
+            frames: self.frames_after(stream),
+            ..self
+        })
+    }
+
+    // The trailer with the run length, and the state after it.
+    fn trailer(self, buf: &mut [u8]) -> Result<Writer, AmvError>
+        ensures { MeetsOutcome (trailer_call self buf.old) (told self result) buf.new }
+    {
+        self.ask_trailer(buf.len())?;
+        fields::copy_in(buf, self.written as usize, b"AMV_END_");
+        self.patch_run_length(buf);
+        Ok(Writer {
+            ended: true,
+            written: self.written + 8,
+            ..self
+        })
     }
 
     // Writes the prelude at the buffer's start. Refused in this order, with state and buffer as they were: begun already 50, ended 55, no room
@@ -299,14 +245,7 @@ impl Writer {
     pub fn write_header(self, buf: &mut [u8]) -> Wrote
         ensures { MeetsOutcome (header_call self buf.old) result buf.new }
     {
-        match self.ask_header(buf.len()) {
-            Err(e) => Wrote::refused(e, self),
-            Ok(()) => {
-                let settings = self.settings;
-                settings.put_prelude(buf);
-                Wrote::accepted(self.after_header())
-            }
-        }
+        Wrote::told(self, self.header(buf))
     }
 
     // Writes a packet after what is written. Refused in this order, with state and buffer as they were: not begun 51, ended 55, no prelude
@@ -314,13 +253,7 @@ impl Writer {
     pub fn write_packet(self, buf: &mut [u8], payload: &[u8], stream: u32) -> Wrote
         ensures { MeetsOutcome (packet_call self payload.now stream buf.old) result buf.new }
     {
-        match self.ask_packet(payload.len(), stream, buf.len()) {
-            Err(e) => Wrote::refused(e, self),
-            Ok(()) => {
-                put_packet(buf, self.written as usize, payload, stream);
-                Wrote::accepted(self.after_packet(payload.len(), stream))
-            }
-        }
+        Wrote::told(self, self.packet(buf, payload, stream))
     }
 
     // Writes the trailer, patches the run length into the prelude and ends the file. Refused in this order, with state and buffer as they were:
@@ -328,13 +261,6 @@ impl Writer {
     pub fn write_trailer(self, buf: &mut [u8]) -> Wrote
         ensures { MeetsOutcome (trailer_call self buf.old) result buf.new }
     {
-        match self.ask_trailer(buf.len()) {
-            Err(e) => Wrote::refused(e, self),
-            Ok(()) => {
-                put_trailer(buf, self.written as usize);
-                self.patch_run_length(buf);
-                Wrote::accepted(self.after_trailer())
-            }
-        }
+        Wrote::told(self, self.trailer(buf))
     }
 }
