@@ -1,7 +1,6 @@
 -- 01's sentences about the three writing calls hold: each call is an outcome of its questions, and what an accepted one leaves is a law of
 -- its own. Assumes nothing.
 use mathlib.Core.Path.{◌≡◌, refl, ap, ◌∙◌}
-use Rattle.error.specs.Refusal.{said}
 use mathlib.Core.Bool.{Bool, true, false, not, cond, ◌&&◌}
 use mathlib.Core.List.{List, [], ◌∷◌, ◌++◌}
 use Prim.Native.Nat.{ℕ, ◌+◌, ◌≤◌, ◌<◌, min}

@@ -1,10 +1,10 @@
 -- What the writer's functions cite: room, the questions asked first, and bytes put one after another. Assumes nothing.
 use mathlib.Core.Path.{◌≡◌, refl, sym, ap, ◌∙◌}
-use mathlib.Core.Bool.{Bool, true, false, not, ◌&&◌}
+use mathlib.Core.Bool.{Bool, true, false, not}
 use mathlib.Core.List.{List, ◌++◌, append_assoc}
-use Prim.Native.Nat.{ℕ, ◌+◌, ◌≤◌, ◌<◌, min}
+use Prim.Native.Nat.{ℕ, ◌+◌, ◌≤◌}
 use native.Mathlib.Omega.{arith}
-use borrow.Author.Tests.{le-leb, leb-true, not-true}
+use borrow.Author.Tests.{leb-true, not-true}
 use lib.Dec.{leb}
 use lib.ListN.{length, length-append}
 use Rattle.chunk.specs.Chunk.{stream_tag, payload_limit}
@@ -24,17 +24,6 @@ use Rattle.muxer.specs.Steps.{told}
 use Rattle.muxer.specs.declared.Writer.{Writer}
 
 -- ---- room
-
-pub fits_yes : (end room : ℕ) → end ≤ room → end ≤ file_limit → fits end room ≡ true
-fits_yes end room a b = rw (le-leb end room a, le-leb end file_limit b)
-
-pub fits-no : (end room : ℕ) → min room file_limit < end → fits end room ≡ false
-fits-no end room h = go (leb end room) (leb end file_limit) refl refl
-  where
-    go : (a b : Bool) → leb end room ≡ a → leb end file_limit ≡ b → a && b ≡ false
-    go true true p q = let x = leb-true end room p in let y = leb-true end file_limit q in absurd (omega arith)
-    go true false p q = refl
-    go false b p q = refl
 
 pub fits-ends : (end room : ℕ) → fits end room ≡ true → (end ≤ room) × (end ≤ file_limit)
 fits-ends end room h =

@@ -1,9 +1,9 @@
 -- `muxer::Writer::packet` meets its contract. Where the questions pass, the length that they give is the payload's (`length_ok`), and the packet fits the
 -- buffer and the file limit (`packet-passed`); the two ends of the call are `meets_err` and `meets_ok`.
 -- Assumes nothing.
-use Rattle.std.proofs.Common.{◌≡◌, sym, ap, ◌+◌, length, arith, Fits, w64}
-use Rattle.muxer.specs.Writer.{packet_questions, packet_call}
-use Rattle.muxer.proofs.Steps.{PacketPassed, packet-passed, length_err, length_ok, meets_err, meets_ok}
+use Rattle.std.proofs.Common.{sym, length, arith}
+use Rattle.muxer.specs.Writer.{packet_call}
+use Rattle.muxer.proofs.Steps.{packet-passed, length_err, length_ok, meets_err, meets_ok}
 use Rattle.muxer.proofs.Writer.packet.Goals as goal
 
 pub returns-in_err-size : goal.returns-in_err-size
