@@ -14,7 +14,7 @@ use Rattle.error.specs.Answer.{Answer, accepted, refused, ask, and_then}
 use Rattle.error.specs.Refusal.{refusal_of, said}
 use Rattle.error.specs.declared.AmvError.{AmvError}
 use Rattle.error.specs.declared.Refusal.{Refusal}
-use Rattle.error.proofs.Answers.{never, accepted-same, then-passed, ask-passed, both}
+use Rattle.error.proofs.Answers.{never, accepted-same, passed_on, then-passed, ask-passed, both}
 use Rattle.fields.specs.File.{file_limit}
 use Rattle.fields.specs.Le.{le_bytes, put}
 use Rattle.fields.proofs.Laws.{put-put, length-le_bytes}
@@ -49,6 +49,9 @@ open_err w rest e = three w.written rest w.begun (not w.ended) (has_prelude w) �
 -- where they pass, what is asked after them decides
 pub open_ok : (w : Writer) (rest : Answer Unit) → accepted tt ≡ ask_open w (accepted tt) → ask_open w rest ≡ rest
 open_ok w rest e = three w.written rest w.begun (not w.ended) (has_prelude w) ∙ ap (λ (x : Answer Unit). and_then x (λ _. rest)) (sym e)
+
+-- what a call that begins with them needs, at the exit of its `?` and past it
+pub ruleset opened = (passed_on, open_err, open_ok)
 
 -- ---- bytes
 

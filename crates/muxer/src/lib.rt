@@ -152,7 +152,7 @@ impl Writer {
     }
 
     // The questions of a packet, of its payload's length and its stream. Gives the length as the packet's header has it.
-    #[tactic(auto, using(error::proofs::Answers::passed_on, crate::proofs::Steps::open_ok, crate::proofs::Steps::open_err), unfolding(crate::specs::Writer::packet_questions))]
+    #[tactic(auto, using(crate::proofs::Steps::opened), unfolding(crate::specs::Writer::packet_questions))]
     fn ask_packet(self, len: usize, stream: u32, room: usize) -> Result<u32, AmvError>
         ensures { said result ≡ and_then (packet_questions self len stream room) (λ _. accepted len) }
     {
@@ -168,7 +168,7 @@ impl Writer {
     }
 
     // The questions of the trailer.
-    #[tactic(auto, using(error::proofs::Answers::passed_on, crate::proofs::Steps::open_ok, crate::proofs::Steps::open_err), unfolding(crate::specs::Writer::trailer_questions))]
+    #[tactic(auto, using(crate::proofs::Steps::opened), unfolding(crate::specs::Writer::trailer_questions))]
     fn ask_trailer(self, room: usize) -> Result<(), AmvError>
         ensures { said result ≡ trailer_questions self room }
     {
