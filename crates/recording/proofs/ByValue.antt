@@ -1,6 +1,5 @@
 -- The calls by value are 01's calls by their contracts, with the state itself for the one that it stands for. Assumes nothing.
 use mathlib.Core.Path.{◌≡◌, refl, ap}
-use Rattle.error.specs.Refusal.{said}
 use mathlib.Core.List.{List}
 use Prim.Native.Nat.{ℕ}
 use lib.ListN.{take}

@@ -3,9 +3,9 @@
 -- the cut file's whole chunks, which are the survivors. Assumes nothing.
 use mathlib.Core.Path.{◌≡◌, refl, sym, ap, ◌∙◌, subst, transport}
 use Rattle.error.specs.Refusal.{said}
-use Rattle.std.proofs.Common.{Option, Some, None}
 use mathlib.Core.Bool.{Bool, true, false, cond}
 use mathlib.Core.List.{List, [], ◌∷◌}
+use mathlib.Core.Option.{Option, none, some}
 use Prim.Native.Nat.{ℕ, zero, suc, ◌-◌, ◌≤◌, ◌<◌, min}
 use native.Mathlib.Nat.{le_of_suc-le-suc, not-suc-le-zero}
 use native.Mathlib.Omega.{arith}
@@ -117,7 +117,7 @@ module _ (n : ℕ) where
 
 -- an answer that agrees with the machine gives a packet of these, if any
 abbrev From : List Shown → CallAnswer → Type 0
-From ps (read_answer (packet p)) = (k : ℕ) × (get_elem? ps k ≡ Some p)
+From ps (read_answer (packet p)) = (k : ℕ) × (get_elem? ps k ≡ some p)
 From ps (read_answer End) = Unit
 From ps (read_answer (read_answers.refused r)) = ⊥
 From ps (seek_answer a) = Unit
@@ -127,19 +127,19 @@ unfolding file_step machine_step
 from_step v k read a g = on (get_elem? (drain (wholes_of v)) k) refl g
   where
     on : (x : Option Shown) → get_elem? (drain (wholes_of v)) k ≡ x → Agrees (on_read k x).says a → From (drain (wholes_of v)) a
-    on (Some p) e g = subst (From (drain (wholes_of v))) (sym g) (k, e)
-    on None e g = subst (From (drain (wholes_of v))) (sym g) tt
+    on (some p) e g = subst (From (drain (wholes_of v))) (sym g) (k, e)
+    on none e g = subst (From (drain (wholes_of v))) (sym g) tt
 from_step v k (seek stream request) a g = on (leb stream 1) (get_elem? (drain (recorded_of v)) (first stream request (drain (recorded_of v)))) g
   where
     on : (t : Bool) (x : Option Shown)
         → Agrees (cond t (on_seek (first stream request (drain (recorded_of v))) x) (record { says = refuses; place = k })).says a
         → From (drain (wholes_of v)) a
-    on true (Some p) g = subst (From (drain (wholes_of v))) (sym g) tt
-    on true None g = subst (From (drain (wholes_of v))) (sym g.1) tt
+    on true (some p) g = subst (From (drain (wholes_of v))) (sym g) tt
+    on true none g = subst (From (drain (wholes_of v))) (sym g.1) tt
     on false x g = subst (From (drain (wholes_of v))) (sym g) tt
 
 -- the first ones of a list
-first_some : {A : Type 0} (m : ℕ) (l : List A) (k : ℕ) (x : A) → get_elem? (take m l) k ≡ Some x → (k < length (take m l)) × (get_elem? l k ≡ Some x)
+first_some : {A : Type 0} (m : ℕ) (l : List A) (k : ℕ) (x : A) → get_elem? (take m l) k ≡ some x → (k < length (take m l)) × (get_elem? l k ≡ some x)
 first_some zero l k x e = impossible cc
 first_some (suc m) [] k x e = impossible cc
 first_some (suc m) (y ∷ l) zero x e = (omega arith, e)
@@ -169,7 +169,7 @@ module _ (file : List ℕ) (cs : List Chunk) (bytes : Bytes file) (fin : Finishe
   -- a packet of the cut file's is one of the whole's
   from-whole : (a : CallAnswer) → From (drain (wholes_of v)) a → FromWhole cs n a
   from-whole (read_answer (packet p)) (k, e) =
-      let s : get_elem? (survivors n cs) k ≡ Some p = ap (λ (ps : List Shown). get_elem? ps k) (survivors_are file cs fin n short) ∙ e in
+      let s : get_elem? (survivors n cs) k ≡ some p = ap (λ (ps : List Shown). get_elem? ps k) (survivors_are file cs fin n short) ∙ e in
       let i = first_some (length (survivors n cs)) (drain cs) k p (rw survivors-first at s) in
       (k, subst (λ (ps : List Shown). k < length ps) (sym survivors-first) i.0, i.1)
   from-whole (read_answer End) f = tt

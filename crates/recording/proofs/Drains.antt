@@ -1,9 +1,10 @@
 -- Reads of any file, along its walk: at a whole chunk every walker that has not ended is given its packet, and where the walk stops, or a chunk is
 -- cut, End. So reads until their first End give the drain of the whole chunks, and leave the walker where the walk stops. Assumes nothing.
 use mathlib.Core.Path.{◌≡◌, refl, sym, ap, ◌∙◌, subst}
-use Rattle.std.proofs.Common.{Option, Some, None}
+use Rattle.std.proofs.Common.{Option}
 use mathlib.Core.Bool.{Bool, true, false}
 use mathlib.Core.List.{List, [], ◌∷◌}
+use mathlib.Core.Option.{some}
 use Prim.Native.Nat.{ℕ, zero, suc, ◌+◌, ◌≤◌, ◌<◌}
 use native.Mathlib.Nat.{le_of_suc-le-suc, not-suc-le-zero}
 use native.Mathlib.Omega.{arith}
@@ -176,7 +177,7 @@ module _ (file : List ℕ) (bytes : Bytes file) (fits : length file ≤ file_lim
 
 -- position k of these whole chunks, after which the walk stops
 pub data ReadAt (file : List ℕ) (p : Position) (ws : List Chunk) (s : Stop) (k : ℕ) : Type 0 where
-  gives_one : (shown : Shown) → k < length ws → get_elem? (drain_at p ws) k ≡ Some shown
+  gives_one : (shown : Shown) → k < length ws → get_elem? (drain_at p ws) k ≡ some shown
       → ((cut : Bool) (t : Option ℕ)
       → read_of file (standing (position_at p k ws) cut t) ≡ record { answer = packet shown; walker = standing (position_at p (suc k) ws) cut t })
       → ReadAt file p ws s k

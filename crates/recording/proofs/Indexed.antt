@@ -2,9 +2,10 @@
 -- position of the machine, and one step for each kind of call: a read by what reads give along the walk (Drains), a seek by what it finds among the
 -- records (Seeks). Assumes nothing.
 use mathlib.Core.Path.{◌≡◌, refl, sym, ap, ◌∙◌, subst}
-use Rattle.std.proofs.Common.{Option, Some, None}
+use Rattle.std.specs.Prelude.{Some}
 use mathlib.Core.Bool.{Bool, true, false, not, cond, ◌||◌}
 use mathlib.Core.List.{List, [], ◌∷◌}
+use mathlib.Core.Option.{Option, none, some}
 use Prim.Native.Nat.{ℕ, zero, suc, ◌+◌, ◌%◌, ◌≤◌, ◌<◌}
 use native.Mathlib.Nat.{le_of_suc-le-suc, not-suc-le-zero}
 use native.Mathlib.Omega.{arith}
@@ -123,18 +124,18 @@ meets_stop ran_out p at e met = refl
 meets_stop (trailer n) p at e met = λ i. record { position = p; end = true; cut = false; trailer = Some (e i) }
 meets_stop unknown_tag p at e met = refl
 
-get_elem_none : (l : List Shown) (k : ℕ) → length l ≤ k → get_elem? l k ≡ None
+get_elem_none : (l : List Shown) (k : ℕ) → length l ≤ k → get_elem? l k ≡ none
 get_elem_none [] k h = refl
 get_elem_none (x ∷ l) zero h = absurd (not-suc-le-zero h)
 get_elem_none (x ∷ l) (suc k) h = get_elem_none l k (le_of_suc-le-suc h)
 
-drop-none : (l : List Shown) (k : ℕ) → get_elem? l k ≡ None → drop k l ≡ []
+drop-none : (l : List Shown) (k : ℕ) → get_elem? l k ≡ none → drop k l ≡ []
 drop-none [] zero e = refl
 drop-none [] (suc k) e = refl
 drop-none (x ∷ l) zero e = impossible cc
 drop-none (x ∷ l) (suc k) e = drop-none l k e
 
-drop_some : (l : List Shown) (k : ℕ) (x : Shown) → get_elem? l k ≡ Some x → drop k l ≡ x ∷ drop (suc k) l
+drop_some : (l : List Shown) (k : ℕ) (x : Shown) → get_elem? l k ≡ some x → drop k l ≡ x ∷ drop (suc k) l
 drop_some [] zero x e = impossible cc
 drop_some [] (suc k) x e = impossible cc
 drop_some (y ∷ l) zero x e = ap (λ (z : Shown). z ∷ l) cc
@@ -143,7 +144,7 @@ drop_some (y ∷ l) (suc k) x e = drop_some l k x e
 told : {a b : ReadAnswer} → read_answer a ≡ read_answer b → a ≡ b
 told e = cc
 
-pub none-past : (cs : List Chunk) (k : ℕ) → length cs ≤ k → get_elem? (drain cs) k ≡ None
+pub none-past : (cs : List Chunk) (k : ℕ) → length cs ≤ k → get_elem? (drain cs) k ≡ none
 none-past cs k h = get_elem_none (drain cs) k (omega (arith, length-drain start cs))
 
 -- a read after the end changes no mark
@@ -155,11 +156,11 @@ pub record Jumped (file : List ℕ) (v : Walk) (k stream : ℕ) (s : Seeking) : 
   pub answer : s.answer ≡ accepted (stamp_of stream (position_at start k (recorded_of v)))
   pub position : s.walker.position ≡ position_at start k (recorded_of v)
   pub left : PacketsLeft file s.walker (drop k (drain (wholes_of v)))
-  pub stamp : (p : Shown) → get_elem? (drain (recorded_of v)) k ≡ Some p → p.stamp ≡ stamp_of stream (position_at start k (recorded_of v))
+  pub stamp : (p : Shown) → get_elem? (drain (recorded_of v)) k ≡ some p → p.stamp ≡ stamp_of stream (position_at start k (recorded_of v))
 
 sought-place : (k : ℕ) (x : Option Shown) → (on_seek k x).place ≡ k
-sought-place k (Some p) = refl
-sought-place k None = refl
+sought-place k (some p) = refl
+sought-place k none = refl
 
 module _ (file : List ℕ) (fits : length file ≤ file_limit) (v : Walk) (r : ReadWalk file start v) where
   pub in_walk : (w : Walker) (k : ℕ) (m : Marks) → Invariant v w k m → InRange w.position
@@ -252,19 +253,19 @@ module _ (file : List ℕ) (fits : length file ≤ file_limit) (v : Walk) (r : R
 
   -- by the packet at the position, and what is left after it
   left_by : (w : Walker) (k : ℕ) (m : Marks) → Invariant v w k m → (x : Option Shown) → get_elem? (drain (wholes_of v)) k ≡ x
-      → ((p : Shown) → get_elem? (drain (wholes_of v)) k ≡ Some p → Invariant v (read_of file w).walker (suc k) m
+      → ((p : Shown) → get_elem? (drain (wholes_of v)) k ≡ some p → Invariant v (read_of file w).walker (suc k) m
       → PacketsLeft file (read_of file w).walker (drop (suc k) (drain (wholes_of v))))
       → PacketsLeft file w (drop k (drain (wholes_of v)))
-  left_by w k m i None e later =
-      let t : Turn v m (reading w) (on_read k None) = rw e at (read-turn w k m i) in
+  left_by w k m i none e later =
+      let t : Turn v m (reading w) (on_read k none) = rw e at (read-turn w k m i) in
       rw (drop-none (drain (wholes_of v)) k e) (none_left {w = w} (told t.agrees))
-  left_by w k m i (Some p) e later =
-      let t : Turn v m (reading w) (on_read k (Some p)) = rw e at (read-turn w k m i) in
+  left_by w k m i (some p) e later =
+      let t : Turn v m (reading w) (on_read k (some p)) = rw e at (read-turn w k m i) in
       rw (drop_some (drain (wholes_of v)) k p e) (machine.one_more {w = w} (told t.agrees) (later p e t.keeps))
 
   lefts : (n : ℕ) (w : Walker) (k : ℕ) (m : Marks) → length (wholes_of v) ≤ k + n → Invariant v w k m → PacketsLeft file w (drop k (drain (wholes_of v)))
   lefts zero w k m h i =
-      left_by w k m i _ refl (λ p e j. let z : None ≡ Some p = sym (none-past (wholes_of v) k (omega arith)) ∙ e in impossible cc)
+      left_by w k m i _ refl (λ p e j. let z : none ≡ some p = sym (none-past (wholes_of v) k (omega arith)) ∙ e in impossible cc)
   lefts (suc n) w k m h i = left_by w k m i _ refl (λ p e j. lefts n (read_of file w).walker (suc k) m (omega arith) j)
 
   pub left_of : (w : Walker) (k : ℕ) (m : Marks) → Invariant v w k m → PacketsLeft file w (drop k (drain (wholes_of v)))
@@ -287,7 +288,7 @@ module _ (file : List ℕ) (fits : length file ≤ file_limit) (v : Walk) (r : R
         blocks_is = ap (λ (p : Position). p.blocks.0) e ∙ omega arith;
       }
 
-  of_record : (w : Walker) (k : ℕ) (m : Marks) → Invariant v w k m → (e : ChunkIndexEntry) → get_elem? (records start v) k ≡ Some e
+  of_record : (w : Walker) (k : ℕ) (m : Marks) → Invariant v w k m → (e : ChunkIndexEntry) → get_elem? (records start v) k ≡ some e
       → w.position ≡ e.position
   of_record w k m i e h =
       let q = record-position start (recorded_of v) k e (rw (records_are r) at h) in
@@ -389,7 +390,7 @@ module _ (file : List ℕ) (fits : length file ≤ file_limit) (v : Walk) (r : R
                   (subst (λ (n : ℕ). Invariant v (seek_of table w stream request).walker n (marked_by m (seek_step stream request).says))
                   (sought-place to (get_elem? (drain (recorded_of v)) to)) t.keeps);
               stamp = λ p e.
-                  let same : Some p ≡ Some f.shown = sym e ∙ ap (get_elem? (drain (recorded_of v))) f.first-is ∙ f.shown-is in
+                  let same : some p ≡ some f.shown = sym e ∙ ap (get_elem? (drain (recorded_of v))) f.first-is ∙ f.shown-is in
                   let q : p ≡ f.shown = cc in
                   ap (λ (x : Shown). x.stamp) q ∙ f.stamp-is ∙ ap (stamp_of stream) is;
             }

@@ -1,9 +1,9 @@
 -- The chunks of a walk with a record, and their records: they are the whole chunks and perhaps one that is cut, each record stands where a header
 -- does, so it fits its 24 bytes, is good, and is in range. Assumes nothing.
 use mathlib.Core.Path.{◌≡◌, refl, sym, ap, ◌∙◌, subst}
-use Rattle.std.proofs.Common.{Option, Some, None}
 use mathlib.Core.Bool.{Bool, true, false, cond, ◌||◌}
 use mathlib.Core.List.{List, [], ◌∷◌}
+use mathlib.Core.Option.{some}
 use Prim.Native.Nat.{ℕ, zero, suc, ◌+◌, ◌^◌, ◌≤◌, ◌<◌, suc-le-suc}
 use native.Mathlib.Nat.{le_of_suc-le-suc, not-suc-le-zero}
 use native.Mathlib.Omega.{arith}
@@ -110,7 +110,7 @@ records_are {p = p} (whole {kind = kind} {payload = payload} {rest = rest} h r l
     (ap (λ (es : List ChunkIndexEntry). entry kind p ∷ es) (records_are later))
 
 -- record number k has the position of chunk number k
-pub record-position : (p : Position) (rs : List Chunk) (k : ℕ) (e : ChunkIndexEntry) → get_elem? (records_of p rs) k ≡ Some e
+pub record-position : (p : Position) (rs : List Chunk) (k : ℕ) (e : ChunkIndexEntry) → get_elem? (records_of p rs) k ≡ some e
     → (k < length rs) × (position_at p k rs ≡ e.position)
 unfolding records_of position_at
 record-position p [] k e h = impossible cc

@@ -1,7 +1,6 @@
 -- A list of calls over any state answers and leaves what 01's list of calls does, by one step after the other, so 01's claims hold of it.
 -- Assumes nothing.
 use mathlib.Core.Path.{◌≡◌, refl, ap, ◌∙◌, subst}
-use Rattle.error.specs.Refusal.{said}
 use mathlib.Core.List.{List, [], ◌∷◌}
 use Prim.Native.Nat.{ℕ}
 use lib.ListN.{take}

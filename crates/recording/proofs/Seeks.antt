@@ -1,8 +1,9 @@
 -- What a seek finds among the records of chunks: the first one that the machine goes to, with its stamp. Assumes nothing.
 use mathlib.Core.Path.{◌≡◌, refl, ap}
-use Rattle.std.proofs.Common.{Option, Some, None}
 use mathlib.Core.Bool.{Bool, true, false, cond, ◌&&◌}
 use mathlib.Core.List.{List, [], ◌∷◌}
+use mathlib.Core.Option.{some}
+use Rattle.std.specs.Prelude.{Some, None}
 use Prim.Native.Nat.{ℕ, zero, suc, ◌≤◌, ◌<◌, suc-le-suc}
 use native.Mathlib.Nat.{zero-lt-suc}
 use native.Mathlib.Omega.{arith}
@@ -60,7 +61,7 @@ pub record Hit (stream : ℕ) (request : ℤ) (p : Position) (cs : List Chunk) :
   pub inside : num < length cs
   pub found : find stream request (records_of p cs) ≡ Some at
   pub at-is : at ≡ position_at p num cs
-  pub shown-is : get_elem? (drain_at p cs) num ≡ Some shown
+  pub shown-is : get_elem? (drain_at p cs) num ≡ some shown
   pub stamp-is : shown.stamp ≡ stamp_of stream at
 
 pub data Finds (stream : ℕ) (request : ℤ) (p : Position) (cs : List Chunk) : Type 0 where

@@ -1,7 +1,7 @@
 -- The summary counts what reads give. Of every file these are the packets of the whole chunks of its walk, and so are the counts, by induction along
 -- it; of a finished recording, by its chunks. Assumes nothing.
 use mathlib.Core.Path.{◌≡◌, refl, sym, ap, ◌∙◌}
-use Rattle.std.proofs.Common.{Option, Some, None}
+use Rattle.std.proofs.Common.{None}
 use mathlib.Core.Bool.{false}
 use mathlib.Core.List.{List, [], ◌∷◌}
 use Prim.Native.Nat.{ℕ, suc, ◌+◌}

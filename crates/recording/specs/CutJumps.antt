@@ -2,7 +2,7 @@
 -- the clock that the whole recording would have shown. Assumes nothing.
 use Rattle.std.specs.Prelude.{◌≡◌, ℕ, suc, ◌-◌, ◌≤◌, ◌<◌, min, List, [], ◌∷◌, ℤ, length, take, drop}
 use Rattle.error.specs.Refusal.{said}
-use Rattle.std.specs.Prelude.{Option, Some, None}
+use Rattle.std.proofs.Math.Option.{some}
 use Rattle.std.proofs.Math.ListN.{get_elem?}
 use Rattle.error.specs.Answer.{accepted}
 use Rattle.fields.specs.Le.{Bytes}
@@ -21,7 +21,7 @@ use Rattle.recording.specs.Cut.{survivors}
 
 -- a call on the cut file that gives a packet gives one of the full drain, with the same stream, payload, stamp and duration: number k, which survives
 abbrev pub FromWhole : List Chunk → ℕ → CallAnswer → Type 0
-FromWhole cs n (read_answer (packet p)) = (k : ℕ) × (k < length (survivors n cs)) × (get_elem? (drain cs) k ≡ Some p)
+FromWhole cs n (read_answer (packet p)) = (k : ℕ) × (k < length (survivors n cs)) × (get_elem? (drain cs) k ≡ some p)
 FromWhole cs n (read_answer End) = Unit
 FromWhole cs n (read_answer (refused r)) = ⊥
 FromWhole cs n (seek_answer a) = Unit
@@ -39,7 +39,7 @@ recorded_in file n = recorded_of (file_walk (take n file))
 -- a seek on the cut file and one on the whole, both of which go to chunk number k
 pub record SameJump (file : List ℕ) (cs : List Chunk) (n k : ℕ) (cut whole : Seeking) : Type 0 where
   -- both answer that chunk's stamp
-  pub stamp : (p : Shown) → get_elem? (drain cs) k ≡ Some p → (cut.answer ≡ accepted p.stamp) × (whole.answer ≡ accepted p.stamp)
+  pub stamp : (p : Shown) → get_elem? (drain cs) k ≡ some p → (cut.answer ≡ accepted p.stamp) × (whole.answer ≡ accepted p.stamp)
   -- cursor, frames, samples and blocks are the same
   pub position : cut.walker.position ≡ whole.walker.position
   -- reads give the packets from there on: of the cut file those that survive, which are the first ones of the whole

@@ -1,6 +1,6 @@
 -- The full drain. Assumes nothing.
 use Rattle.std.specs.Prelude.{ℕ, suc, ◌+◌, List, [], ◌∷◌}
-use Rattle.std.specs.Prelude.{Option, Some, None}
+use Rattle.std.specs.Prelude.{Some}
 use Rattle.demuxer.specs.Head.{count_of}
 use Rattle.demuxer.specs.Packet.{Shown, packet_duration}
 use Rattle.walk.specs.Chunks.{Chunk, chunk_of}

@@ -3,6 +3,7 @@
 use Rattle.std.specs.Prelude.{◌≡◌, ℕ, ◌+◌, ◌<◌, Bool, true, false, not, cond, ◌||◌, List, [], ◌∷◌, eqb, length, take, drop}
 use Rattle.error.specs.Refusal.{said}
 use Rattle.std.specs.Prelude.{Option, Some, None}
+use Rattle.std.proofs.Math.Option.{some}
 use Rattle.std.proofs.Math.ListN.{get_elem?}
 use Rattle.error.specs.Answer.{refused, numbered}
 use Rattle.fields.specs.Le.{Bytes}
@@ -102,7 +103,7 @@ pub record LeftAlong (file : List ℕ) (v : Walk) (calls : List Call) (w : Walke
   pub left : PacketsLeft file w (drop (file_after v 0 calls) (drain (wholes_of v)))
   -- at a record the cursor and the three counts are that record's: by the chunks before it, and as it stands in the index
   pub stands : file_after v 0 calls < length (recorded_of v) → AtChunk (recorded_of v) (file_after v 0 calls) w
-  pub at_record : (e : ChunkIndexEntry) → get_elem? (records start v) (file_after v 0 calls) ≡ Some e → w.position ≡ e.position
+  pub at_record : (e : ChunkIndexEntry) → get_elem? (records start v) (file_after v 0 calls) ≡ some e → w.position ≡ e.position
   -- end, cut and trailer
   pub marked : Marked v (marks_after unmarked (file_says v 0 calls)) w
 

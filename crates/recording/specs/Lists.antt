@@ -2,7 +2,7 @@
 -- index, as the callers of functions that keep their state in words or behind a reference have it. Assumes nothing.
 use Rattle.std.specs.Prelude.{◌≡◌, ℕ, ◌<◌, true, List, [], ◌∷◌, length, take}
 use Rattle.error.specs.Refusal.{said}
-use Rattle.std.specs.Prelude.{Option, Some, None}
+use Rattle.std.specs.Prelude.{None}
 use Rattle.error.specs.Answer.{Answer}
 use Rattle.fields.specs.Le.{Bytes}
 use Rattle.demuxer.specs.Packet.{Shown}

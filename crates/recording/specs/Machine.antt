@@ -1,7 +1,6 @@
 -- The plain machine, and the claim about every list of reads and seeks. Assumes nothing.
 use Rattle.std.specs.Prelude.{◌≡◌, ℕ, suc, ◌+◌, ◌<◌, cond, ◌&&◌, List, [], ◌∷◌, leb, eqb, ℤ, pos, length, take, drop}
-use Rattle.error.specs.Refusal.{said}
-use Rattle.std.specs.Prelude.{Option, Some, None}
+use Rattle.std.proofs.Math.Option.{Option, none, some}
 use Rattle.std.proofs.Math.ListN.{get_elem?}
 use Rattle.std.specs.Int.Signed.{le_z}
 use Rattle.error.specs.Answer.{Answer, accepted, refused, numbered}
@@ -38,8 +37,8 @@ pub record MachineStep : Type 0 where
 -- "Its state is a position among the chunks or the end": a number, the end being the number of chunks.
 -- "A read moves one on, and stays at the end."
 abbrev pub on_read : ℕ → Option Shown → MachineStep
-on_read k (Some p) = record { says = gives p; place = suc k }
-on_read k None = record { says = ends; place = k }
+on_read k (some p) = record { says = gives p; place = suc k }
+on_read k none = record { says = ends; place = k }
 
 -- "the first chunk of its stream stamped at or after the request, else the end"
 unfoldable pub first : ℕ → ℤ → List Shown → ℕ
@@ -47,8 +46,8 @@ first stream request [] = 0
 first stream request (p ∷ ps) = cond (eqb p.stream stream && le_z request (pos p.stamp)) 0 (suc (first stream request ps))
 
 abbrev pub on_seek : ℕ → Option Shown → MachineStep
-on_seek k (Some p) = record { says = goes p.stamp; place = k }
-on_seek k None = record { says = goes_to_end; place = k }
+on_seek k (some p) = record { says = goes p.stamp; place = k }
+on_seek k none = record { says = goes_to_end; place = k }
 
 -- "A seek of a stream other than 0 or 1 is refused; a refused call leaves the position."
 unfoldable pub machine_step : List Shown → ℕ → Call → MachineStep

@@ -1,6 +1,5 @@
 -- Lists of writing calls, and the claim about every one of them. Assumes nothing.
 use Rattle.std.specs.Prelude.{◌≡◌, ℕ, ◌≤◌, ◌<◌, take}
-use Rattle.error.specs.Refusal.{said}
 use mathlib.Core.List.{List, [], ◌∷◌, Memᴰ}
 use Rattle.fields.specs.Capped.{u32_max}
 use Rattle.error.specs.Answer.{Answer, accepted, refused}
