@@ -3,6 +3,7 @@
 use mathlib.Core.Path.{◌≡◌, refl, sym, ap, subst, ◌∙◌}
 use Rattle.error.specs.Refusal.{said}
 use Rattle.std.proofs.Common.{Option, Some, None}
+use mathlib.Core.Option as maybe
 use Prim.Native.Nat.{ℕ, ◌≤◌}
 use mathlib.Core.Bool.{Bool, true, false, cond}
 use mathlib.Core.List.{List, [], ◌∷◌, append-nil}
@@ -116,20 +117,20 @@ module _ (file : List ℕ) (all : Bytes file) (table : List ℕ) (own : OwnIndex
 
   -- ---- one step
 
-  read-marked : (w : Walker) (k : ℕ) (m : Marks) → Invariant v w k m → (x : Option Shown) → Turn v m (call file table w read) (on_read k x)
+  read-marked : (w : Walker) (k : ℕ) (m : Marks) → Invariant v w k m → (x : maybe.Option Shown) → Turn v m (call file table w read) (on_read k x)
       → Marked (on_read k x).says (call file table w read)
   unfolding Marked call
-  read-marked w k m i (Some p) t = packet-stamp file w (own_range file all table own w k m i) (read_same t.agrees)
-  read-marked w k m i None t = (marked t.keeps).end_is
+  read-marked w k m i (maybe.some p) t = packet-stamp file w (own_range file all table own w k m i) (read_same t.agrees)
+  read-marked w k m i maybe.none t = (marked t.keeps).end_is
 
-  seek-marked : (w : Walker) (m : Marks) (stream : ℕ) (z : ℤ) (k : ℕ) (x : Option Shown) → Turn v m (call file table w (seek stream z)) (on_seek k x)
+  seek-marked : (w : Walker) (m : Marks) (stream : ℕ) (z : ℤ) (k : ℕ) (x : maybe.Option Shown) → Turn v m (call file table w (seek stream z)) (on_seek k x)
       → Marked (on_seek k x).says (call file table w (seek stream z))
   unfolding Marked call
-  seek-marked w m stream z k (Some p) t = (
+  seek-marked w m stream z k (maybe.some p) t = (
     rw (seek-stamp table w stream z (seek-same t.agrees)) (stamp_in stream _ (own_range file all table own _ k _ t.keeps)),
     (marked t.keeps).end_is,
   )
-  seek-marked w m stream z k None t = tt
+  seek-marked w m stream z k maybe.none t = tt
 
   -- the marks after what the machine is fed
   abbrev marks_fed : ℕ → Marks → Option Call → Marks

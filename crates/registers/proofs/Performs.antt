@@ -18,6 +18,7 @@ use Rattle.fields.specs.Le.{le_bytes, put, put_le}
 use Rattle.demuxer.specs.Packet.{shown_of}
 use Rattle.demuxer.specs.Read.{said_next, said_read, Placed, read_of}
 use Rattle.demuxer.specs.declared.walker.Read.{Read}
+use Rattle.demuxer.specs.declared.packet.Packet.{Packet}
 use Rattle.demuxer.specs.declared.walker.Walker.{Walker}
 use Rattle.recording.specs.Machine.{Call, read_answer, seek_answer, call}
 use Rattle.seek.specs.Seek.{said_seek_outcome, seek_of}
@@ -25,7 +26,7 @@ use Rattle.seek.specs.declared.SeekOutcome.{SeekOutcome}
 use Rattle.registers.specs.Registers.{command_in, done_of, perform, status_of, front_after, request_after, block_after, stepped, stepped_from, step_of}
 use Rattle.registers.specs.Registers.{said_step, StepPlaced, MeetsStep}
 use Rattle.registers.specs.Registers as registers
-use Rattle.registers.specs.Steps.{call_of, said_done, said_performed, DonePlaced, read_done, seek_done, result_of}
+use Rattle.registers.specs.Steps.{said_command, call_of, said_done, said_performed, DonePlaced, read_done, seek_done, result_of}
 use Rattle.registers.specs.Steps.{told_of, told_by, bits_of, number_of, stamped_by, block_told}
 use Rattle.registers.specs.declared.Command.{Command}
 use Rattle.registers.specs.declared.Command.TheVariants as command
@@ -147,11 +148,11 @@ told-said file (done.Gave p) = refl
 told-said file (done.Went stamp) = refl
 told-said file (done.Refused e) = refl
 
-module _ (file table : List ℕ) (w : Walker) (block : List ℕ) {r : Result Command AmvError} (asked : said r ≡ command_in block) where
+module _ (file table : List ℕ) (w : Walker) (block : List ℕ) {r : Result Command AmvError} (asked : said_command r ≡ command_in block) where
   pub step-refused : {e : AmvError} → r ≡ Err e → MeetsStep file table w block (record { result = Err e; walker = w }) block
   unfolding step_of
   step-refused {e} t =
-      let q : command_in block ≡ refused (refusal_of e) = sym asked ∙ ap said t in
+      let q : command_in block ≡ refused (refusal_of e) = sym asked ∙ ap said_command t in
       record {
         answer = sym (ap (λ (a : Answer (Option Call)). (stepped_from file table w block a).answer) q);
         walker = sym (ap (λ (a : Answer (Option Call)). (stepped_from file table w block a).walker) q);
@@ -160,7 +161,7 @@ module _ (file table : List ℕ) (w : Walker) (block : List ℕ) {r : Result Com
       }
 
   pub command-is : {c : Command} → r ≡ Ok c → command_in block ≡ accepted (call_of c)
-  command-is t = sym asked ∙ ap said t
+  command-is t = sym asked ∙ ap said_command t
 
   pub step-made : (p : Performed) {c : Command} {t : Told} {last : List ℕ} {result : Result (Option Packet) AmvError} → r ≡ Ok c
       → said_performed file p ≡ perform file table w (call_of c) → DonePlaced file w p.done

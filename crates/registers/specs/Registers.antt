@@ -14,6 +14,7 @@ use Rattle.fields.specs.Le.{le, le_bytes}
 use Rattle.demuxer.specs.Packet.{Shown, shown_of}
 use Rattle.demuxer.specs.Read.{packet, End, PlacedAt}
 use Rattle.demuxer.specs.Read as read_answers
+use Rattle.demuxer.specs.declared.packet.Packet.{Packet}
 use Rattle.demuxer.specs.declared.walker.Walker.{Walker}
 use Rattle.recording.specs.Machine.{Call, read, seek, CallAnswer, read_answer, seek_answer, call}
 use Rattle.registers.specs.declared.RegisterStep.{RegisterStep}

@@ -10,6 +10,7 @@ use Rattle.error.specs.Answer as answer
 use Rattle.error.specs.Refusal.{refusal_of}
 use Rattle.demuxer.specs.Packet.{shown_of}
 use Rattle.demuxer.specs.Read.{PlacedAt}
+use Rattle.demuxer.specs.declared.packet.Packet.{Packet}
 use Rattle.demuxer.specs.declared.walker.Walker.{Walker}
 use Rattle.fields.specs.Le.{le_bytes, put_le}
 use Rattle.recording.specs.Machine.{Call, read, seek}
@@ -27,6 +28,10 @@ abbrev pub call_of : Command → Option Call
 call_of command.None = None
 call_of command.Read = Some read
 call_of (command.Seek stream request) = Some (seek stream (to_z w64 request))
+
+abbrev pub said_command : Result Command AmvError → Answer (Option Call)
+said_command (Ok c) = accepted (call_of c)
+said_command (Err e) = answer.refused (refusal_of e)
 
 -- what a command has done, in the code's terms
 abbrev pub said_done : List ℕ → Done → registers.Done

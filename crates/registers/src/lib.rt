@@ -6,7 +6,7 @@ ghost use Rattle.error.specs.Refusal.{said};
 ghost use Rattle.std.specs.Int.{w64};
 ghost use Rattle.std.proofs.Common.{to_z};
 ghost use Rattle.registers.specs.Registers.{command_in, perform, pending_of, front_after, MeetsStep};
-ghost use Rattle.registers.specs.Steps.{call_of, read_done, seek_done, said_performed, DonePlaced};
+ghost use Rattle.registers.specs.Steps.{call_of, said_command, read_done, seek_done, said_performed, DonePlaced};
 ghost use Rattle.registers.specs.Steps.{told_of, bits_of, number_of, stamped_by, block_told, result_of};
 
 use demuxer::packet::Packet;
@@ -15,7 +15,7 @@ use error::AmvError;
 use seek::seek_to_via_index;
 
 // The layout of the block: where each register stands, and its bits.
-#[derive(Clone, Copy)]
+#[derive(Clone, Copy, Debug, PartialEq, Eq)]
 pub struct Registers;
 
 impl Registers {
@@ -69,14 +69,14 @@ impl Registers {
 }
 
 // A step's answer, and the walker that the next step gets.
-#[derive(Clone, Copy)]
+#[derive(Clone, Copy, Debug, PartialEq, Eq)]
 pub struct RegisterStep {
     pub result: Result<Option<Packet>, AmvError>,
     pub walker: Walker,
 }
 
 // The call that a command makes: a seek with its stream, and with the bits of its request.
-#[derive(Clone, Copy)]
+#[derive(Clone, Copy, Debug, PartialEq, Eq)]
 pub enum Command {
     None,
     Read,
@@ -84,7 +84,7 @@ pub enum Command {
 }
 
 // What a command has done. End is nothing to tell: the walker's mark says it.
-#[derive(Clone, Copy)]
+#[derive(Clone, Copy, Debug, PartialEq, Eq)]
 enum Done {
     Nothing,
     Gave(Packet),
@@ -93,7 +93,7 @@ enum Done {
 }
 
 // That, and the walker after it.
-#[derive(Clone, Copy)]
+#[derive(Clone, Copy, Debug, PartialEq, Eq)]
 struct Performed {
     done: Done,
     walker: Walker,
@@ -101,7 +101,7 @@ struct Performed {
 
 // What the block tells of what a command has done, in plain numbers: the stamp of the packet that its read gave, the stamp to which its seek
 // went, or the number of the refusal.
-#[derive(Clone, Copy)]
+#[derive(Clone, Copy, Debug, PartialEq, Eq)]
 pub enum Told {
     Nothing,
     Gave(u64),
@@ -113,16 +113,13 @@ pub enum Told {
 pub fn signed(bits: u64) -> i64
     ensures { result ≡ to_z w64 bits }
 {
-    if bits < 9223372036854775808 {
-        bits as i64
-    } else {
-        -1 - (18446744073709551615 - bits) as i64
-    }
+    bits.cast_signed()
 }
 
 // The command of a block, with its request where it is a seek. Refuses with 74 and 75, which alone refuse a step.
+#[tactic(auto, unfolding(crate::specs::Registers::command_in, crate::specs::Registers::commanded, crate::specs::Registers::request_in))]
 pub fn command_in(block: &[u8]) -> Result<Command, AmvError>
-    ensures { said result ≡ command_in block.now }
+    ensures { said_command result ≡ command_in block.now }
 {
     if block.len() != Registers::LEN {
         return Err(AmvError::WrongRegisterBlock);
@@ -161,7 +158,7 @@ fn seek_done(res: Result<u64, AmvError>) -> Done
 {
     match res {
         Ok(stamp) => Done::Went(stamp),
-        Err(e) => Done::Refused(e),
+        Err(refusal) => Done::Refused(refusal),
     }
 }
 
@@ -177,20 +174,16 @@ fn perform(walker: Walker, file: &[u8], table: &[u8], command: Command) -> Perfo
         },
         Command::Read => {
             let read = walker.next_packet(file);
-            let answer = read.answer;
-            let next = read.walker;
             Performed {
-                done: read_done(answer),
-                walker: next,
+                done: read_done(read.answer),
+                walker: read.walker,
             }
         }
         Command::Seek(stream, request) => {
             let sought = seek_to_via_index(walker, table, stream, signed(request));
-            let result = sought.result;
-            let next = sought.walker;
             Performed {
-                done: seek_done(result),
-                walker: next,
+                done: seek_done(sought.result),
+                walker: sought.walker,
             }
         }
     }
@@ -213,9 +206,8 @@ fn told_bits(told: Told) -> u8
     ensures { result ≡ bits_of told }
 {
     match told {
-        Told::Nothing => 0,
+        Told::Nothing | Told::Went(_) => 0,
         Told::Gave(_) => Registers::PACKET,
-        Told::Went(_) => 0,
         Told::Refused(_) => Registers::REFUSED,
     }
 }
@@ -225,10 +217,8 @@ fn refusal_number(told: Told) -> u8
     ensures { result ≡ number_of told }
 {
     match told {
-        Told::Nothing => 0,
-        Told::Gave(_) => 0,
-        Told::Went(_) => 0,
         Told::Refused(number) => number,
+        _ => 0,
     }
 }
 
@@ -277,15 +267,16 @@ fn put_stamp(block: &mut [u8], told: Told)
     ensures { block.new ≡ stamped_by told block.old }
 {
     match told {
-        Told::Nothing => {}
-        Told::Gave(stamp) => fields::write_le::<u64>(block, Registers::REQUEST, stamp),
-        Told::Went(stamp) => fields::write_le::<u64>(block, Registers::REQUEST, stamp),
-        Told::Refused(_) => {}
+        Told::Gave(stamp) | Told::Went(stamp) => {
+            fields::write_le::<u64>(block, Registers::REQUEST, stamp)
+        }
+        Told::Nothing | Told::Refused(_) => {}
     }
 }
 
 // Writes the block of a step anew, by what its command has done and the marks of the walker after it. It refuses nothing: a block is asked about
 // before its command is performed (command_in).
+#[tactic(auto, unfolding(crate::specs::Steps::block_told))]
 pub fn write_block(block: &mut [u8], told: Told, end: bool, cut: bool)
     requires { length block.old ≡ 16 }
     ensures { block.new ≡ block_told block.old told end cut }
@@ -300,16 +291,15 @@ fn step_result(done: Done) -> Result<Option<Packet>, AmvError>
     ensures { result ≡ result_of done }
 {
     match done {
-        Done::Nothing => Ok(None),
         Done::Gave(packet) => Ok(Some(packet)),
-        Done::Went(_) => Ok(None),
-        Done::Refused(_) => Ok(None),
+        _ => Ok(None),
     }
 }
 
 // A step of the register block: acknowledges, performs the command on the walker by the file or the table, and writes the block anew; gives the
 // packet of a read, so that the panel can show what the controller only commands. Refused in this order, with walker and block as they were: a
 // block that has not 16 bytes with 74, a command above 3 with 75. A read or seek that is refused is told in the block.
+#[tactic(auto, unfolding(crate::specs::Registers::step_of, crate::specs::Registers::command_in))]
 pub fn register_step(walker: Walker, file: &[u8], table: &[u8], block: &mut [u8]) -> RegisterStep
     ensures { MeetsStep file.now table.now walker block.old result block.new }
 {
@@ -319,13 +309,11 @@ pub fn register_step(walker: Walker, file: &[u8], table: &[u8], block: &mut [u8]
             walker,
         },
         Ok(command) => {
-            let performed = perform(walker, file, table, command);
-            let done = performed.done;
-            let next = performed.walker;
-            write_block(block, told_of(done), next.end, next.cut);
+            let Performed { done, walker } = perform(walker, file, table, command);
+            write_block(block, told_of(done), walker.end, walker.cut);
             RegisterStep {
                 result: step_result(done),
-                walker: next,
+                walker,
             }
         }
     }

@@ -1,14 +1,8 @@
 -- `registers::perform` meets its contract. Each arm is the command that it names (`Performs`).
 -- Assumes nothing.
 use native.Mathlib.Omega.{arith}
-use Rattle.registers.proofs.Performs.{none_performed, read_performed_lem, seek_performed_lem}
+use Rattle.registers.proofs.Performs.{read_performed_lem, seek_performed_lem}
 use Rattle.registers.proofs.perform.Goals as goal
-
-pub returns-in-None : goal.returns-in-None
-returns-in-None c =
-    let a = c.args in
-    let p = none_performed a.file.now a.table.now a.walker c.in-None.is in
-    record { result_value = p.0; done_placed = p.1 }
 
 pub returns-in-Read : goal.returns-in-Read
 returns-in-Read c =

@@ -5,11 +5,5 @@ use Rattle.registers.proofs.write_block.Goals as goal
 
 pub returns : goal.returns
 returns c =
-    let p = c in
-    let f = p in
-    let n = f in
-    let o = n in
-    let s = o in
-    let a = s.args in
-    block_written a.block.now s.requires a.told a.end a.cut o.status_of-status.ensures n.refusal_number.ensures
-    f.put_front.ensures p.put_stamp.ensures
+    let a = c.args in
+    block_written a.block.now c.requires a.told a.end a.cut c.status_of-status.ensures c.refusal_number.ensures c.put_front.ensures c.put_stamp.ensures
