@@ -29,7 +29,7 @@ pub struct Settings {
 }
 
 // The state of writing, which every call returns anew: the settings, what has been written and how far, and the frames so far. The bytes
-// stay in the caller's buffer.
+// stay in the caller's buffer. The two marks are two fields because the C interface passes each as a word of its own, in any combination.
 #[derive(Clone, Copy, Debug, PartialEq, Eq)]
 pub struct Writer {
     pub settings: Settings,
@@ -39,7 +39,7 @@ pub struct Writer {
     pub frames: u64,
 }
 
-// A call's answer and the state that the next call gets.
+// A call's answer and the state that the next call gets. They stand side by side because a refusal hands the state back too (`MeetsOutcome`).
 #[derive(Clone, Copy, Debug, PartialEq, Eq)]
 pub struct Wrote {
     pub result: Result<(), AmvError>,
