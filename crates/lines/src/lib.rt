@@ -1,108 +1,121 @@
-// The lines of a listing, as bytes at an offset of a lent buffer. Each function answers where its bytes end. None refuses: a caller lends
-// the room that `requires` names, and so many bytes hold the longest line of the kind.
+// The lines of a listing, as words put behind a text. None of the functions refuses: a caller lends the room that `requires` names, and so many
+// bytes hold the longest line of the kind.
 #![tactic(auto)]
 
 ghost use Rattle.std.specs.Prelude.{[], ◌∷◌, ◌++◌, ◌+◌, ◌≤◌, length};
 ghost use Rattle.text.specs.Text.{decimal};
-ghost use Rattle.text.specs.Written.{Written};
+ghost use Rattle.text.specs.Puts.{Puts};
 ghost use Rattle.lines.specs.Lines.{yes_no, PAIRED, spaced, chunk_line, totals_line, refusal_line, long_line};
 
-use text::{put_digits, put_kind, put_word};
+use text::{Text, put_digits};
+
+// What the line of a chunk says: its kind and offset, and the frames, samples and blocks before it.
+#[derive(Clone, Copy)]
+pub struct ChunkLine {
+    pub frame: bool,
+    pub offset: u64,
+    pub frames: u64,
+    pub samples: u64,
+    pub blocks: u64,
+}
+
+// What the line of the totals says: the trailer's offset, the frames, blocks and samples, and whether each frame has its block.
+#[derive(Clone, Copy)]
+pub struct TotalsLine {
+    pub trailer: u64,
+    pub frames: u64,
+    pub blocks: u64,
+    pub samples: u64,
+    pub paired: bool,
+}
 
 // Puts a space and a number in decimal, without leading zeros: the form that every number of a line has.
-pub fn put_number(out: &mut [u8], off: usize, n: u64) -> usize
-    requires { off + 21 ≤ length out.old }
-    ensures written { Written out.old off (32 ∷ decimal n) out.new result }
-    ensures upper_bound { result ≤ off + 21 }
+pub fn put_number(text: &mut Text, n: u64)
+    requires { text.old.len + 21 ≤ length text.old.buffer.now }
+    ensures written { Puts text.old (32 ∷ decimal n) text.new }
+    ensures upper_bound { text.new.len ≤ text.old.len + 21 }
 {
     let mut digits = [0u8; 20];
-    let from = put_digits(&mut digits, 20, n);
-    let at = put_word(out, off, b" ");
-    put_word(out, at, &digits[from..])
+    let start = put_digits(&mut digits, 20, n);
+    text.put_word(b" ");
+    text.put_word(&digits[start..]);
 }
 
 // Puts a name and the number after it.
-fn put_field(out: &mut [u8], off: usize, name: &[u8], n: u64) -> usize
-    requires { off + length name.now + 21 ≤ length out.old }
-    ensures written { Written out.old off (name.now ++ 32 ∷ decimal n) out.new result }
-    ensures upper_bound { result ≤ off + length name.now + 21 }
+fn put_field(text: &mut Text, name: &[u8], n: u64)
+    requires { text.old.len + length name.now + 21 ≤ length text.old.buffer.now }
+    ensures written { Puts text.old (name.now ++ 32 ∷ decimal n) text.new }
+    ensures upper_bound { text.new.len ≤ text.old.len + length name.now + 21 }
 {
-    let at = put_word(out, off, name);
-    put_number(out, at, n)
+    text.put_word(name);
+    put_number(text, n);
 }
 
 // Puts the end of the line of totals: whether each frame has its block.
-fn put_paired(out: &mut [u8], off: usize, paired: bool) -> usize
-    requires { off + 10 ≤ length out.old }
-    ensures written { Written out.old off (spaced (PAIRED ∷ yes_no paired ∷ [])) out.new result }
-    ensures upper_bound { result ≤ off + 10 }
+fn put_paired(text: &mut Text, paired: bool)
+    requires { text.old.len + 10 ≤ length text.old.buffer.now }
+    ensures written { Puts text.old (spaced (PAIRED ∷ yes_no paired ∷ [])) text.new }
+    ensures upper_bound { text.new.len ≤ text.old.len + 10 }
 {
-    if paired {
-        put_word(out, off, b" PAIRED Y\n")
+    text.put_word(if paired {
+        b" PAIRED Y\n"
     } else {
-        put_word(out, off, b" PAIRED N\n")
-    }
+        b" PAIRED N\n"
+    });
 }
 
-// Puts the line of a chunk: its kind and offset, and the frames, samples and blocks before it.
-pub fn put_chunk_line(
-    out: &mut [u8],
-    off: usize,
-    frame: bool,
-    offset: u64,
-    frames: u64,
-    samples: u64,
-    blocks: u64,
-) -> usize
-    requires { off + 86 ≤ length out.old }
-    ensures written { Written out.old off (chunk_line frame offset frames samples blocks) out.new result }
-    ensures upper_bound { result ≤ off + 86 }
+// Puts the line feed, with which each line ends.
+fn end_line(text: &mut Text)
+    requires { text.old.len + 1 ≤ length text.old.buffer.now }
+    ensures written { Puts text.old (spaced []) text.new }
+    ensures upper_bound { text.new.len ≤ text.old.len + 1 }
 {
-    let a = put_kind(out, off, frame);
-    let b = put_number(out, a, offset);
-    let c = put_number(out, b, frames);
-    let d = put_number(out, c, samples);
-    let e = put_number(out, d, blocks);
-    put_word(out, e, b"\n")
+    text.put_word(b"\n");
+}
+
+// Puts the line of a chunk.
+pub fn put_chunk_line(text: &mut Text, line: ChunkLine)
+    requires { text.old.len + 86 ≤ length text.old.buffer.now }
+    ensures written { Puts text.old (chunk_line line.frame line.offset line.frames line.samples line.blocks) text.new }
+    ensures upper_bound { text.new.len ≤ text.old.len + 86 }
+{
+    text.put_kind(line.frame);
+    put_number(text, line.offset);
+    put_number(text, line.frames);
+    put_number(text, line.samples);
+    put_number(text, line.blocks);
+    end_line(text);
 }
 
 // Puts the line of the totals, the last one of a file that the check accepts.
-pub fn put_totals_line(
-    out: &mut [u8],
-    off: usize,
-    trailer: u64,
-    frames: u64,
-    blocks: u64,
-    samples: u64,
-    paired: bool,
-) -> usize
-    requires { off + 119 ≤ length out.old }
-    ensures written { Written out.old off (totals_line trailer frames blocks samples paired) out.new result }
-    ensures upper_bound { result ≤ off + 119 }
+pub fn put_totals_line(text: &mut Text, line: TotalsLine)
+    requires { text.old.len + 119 ≤ length text.old.buffer.now }
+    ensures written { Puts text.old (totals_line line.trailer line.frames line.blocks line.samples line.paired) text.new }
+    ensures upper_bound { text.new.len ≤ text.old.len + 119 }
 {
-    let a = put_field(out, off, b"END", trailer);
-    let b = put_field(out, a, b" FRAMES", frames);
-    let c = put_field(out, b, b" BLOCKS", blocks);
-    let d = put_field(out, c, b" SAMPLES", samples);
-    put_paired(out, d, paired)
+    put_field(text, b"END", line.trailer);
+    put_field(text, b" FRAMES", line.frames);
+    put_field(text, b" BLOCKS", line.blocks);
+    put_field(text, b" SAMPLES", line.samples);
+    put_paired(text, line.paired);
 }
 
 // Puts the only line of a file that the check refuses: the refusal's number and place.
-pub fn put_refusal_line(out: &mut [u8], off: usize, number: u32, place: u64) -> usize
-    requires { off + 45 ≤ length out.old }
-    ensures written { Written out.old off (refusal_line number place) out.new result }
-    ensures upper_bound { result ≤ off + 45 }
+pub fn put_refusal_line(text: &mut Text, number: u32, place: u64)
+    requires { text.old.len + 45 ≤ length text.old.buffer.now }
+    ensures written { Puts text.old (refusal_line number place) text.new }
+    ensures upper_bound { text.new.len ≤ text.old.len + 45 }
 {
-    let a = put_field(out, off, b"NO", number as u64);
-    let b = put_number(out, a, place);
-    put_word(out, b, b"\n")
+    put_field(text, b"NO", number as u64);
+    put_number(text, place);
+    end_line(text);
 }
 
 // Puts the only line of an input that is too long to be listed.
-pub fn put_long_line(out: &mut [u8], off: usize) -> usize
-    requires { off + 8 ≤ length out.old }
-    ensures written { Written out.old off long_line out.new result }
-    ensures upper_bound { result ≤ off + 8 }
+pub fn put_long_line(text: &mut Text)
+    requires { text.old.len + 8 ≤ length text.old.buffer.now }
+    ensures written { Puts text.old long_line text.new }
+    ensures upper_bound { text.new.len ≤ text.old.len + 8 }
 {
-    put_word(out, off, b"NO LONG\n")
+    text.put_word(b"NO LONG\n");
 }

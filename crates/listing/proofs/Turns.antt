@@ -3,12 +3,11 @@ use mathlib.Core.Path.{◌≡◌, refl, sym, ap, ◌∙◌}
 use mathlib.Core.List.{List, [], ◌++◌}
 use Prim.Native.Nat.{ℕ, ◌+◌, ◌*◌, ◌≤◌}
 use native.Mathlib.Omega.{arith}
-use lib.ListN.{length, length-append}
-use Rattle.fields.specs.Le.{put}
-use Rattle.fields.proofs.Laws.{put-put, put-nothing}
+use lib.ListN.{length}
 use Rattle.prelude.specs.Layout.{prelude_len}
-use Rattle.text.specs.Written.{Written}
-use Rattle.text.proofs.Laws.{same_size}
+use Rattle.text.specs.Puts.{Puts}
+use Rattle.text.specs.declared.Text.{Text}
+use Rattle.text.proofs.Laws.{join, puts_nothing}
 use Rattle.demuxer.specs.Position.{start}
 use Rattle.demuxer.specs.declared.position.Position.{Position}
 use Rattle.walk.specs.Steps.{Walked, past_at}
@@ -34,51 +33,34 @@ lines_on file p c g =
     let n : walk file (p.cursor + (8 + c.size)) ≡ walk file (past_at file p c).cursor = ap (walk file) (sym (past-cursor file p c)) in
     ap (chunk_lines p) g.is ∙ rw (past_is file p c g, n)
 
--- what is written already and the lines that are left are all of them; each line has at most 86 bytes, and its chunk 8 of the input
-pub record Listing (file out₀ out : List ℕ) (p : Position) (to : ℕ) : Type 0 where
+-- whoever puts the lines that are left has put all of them; a line has at most 86 bytes, and its chunk 8 of the input
+pub record Listing (file : List ℕ) (old text : Text) (p : Position) : Type 0 where
   pub walked : Walked p
-  pub kept : length out ≡ length out₀
+  pub same_size : length text.buffer.now ≡ length old.buffer.now
   pub few : prelude_len + 8 * chunks_before p ≤ input_limit
-  pub short : to ≤ 86 * chunks_before p
-  pub ends : to + length (lines_from file p) ≡ length (chunk_lines start (file_walk file))
-  pub rest : put out to (lines_from file p) ≡ put out₀ 0 (chunk_lines start (file_walk file))
+  pub short : text.len ≤ 86 * chunks_before p
+  pub rest : (all : Text) → Puts text (lines_from file p) all → Puts old (chunk_lines start (file_walk file)) all
 
-pub listing_starts : (file out : List ℕ) → Listing file out out start 0
-listing_starts file out =
-    record { walked = walked_start; kept = refl; few = omega arith; short = omega arith; ends = omega arith; rest = refl }
+pub listing_starts : (file : List ℕ) (text : Text) → text.len ≡ 0 → Listing file text text start
+listing_starts file text e = record { walked = walked_start; same_size = refl; few = omega arith; short = omega arith; rest = λ all p. p }
 
-module _ {file out₀ out : List ℕ} {p : Position} {to : ℕ} (l : Listing file out₀ out p to) where
-  pub listing_ends : room ≤ length out₀ → lines_from file p ≡ [] → Written out₀ 0 (chunk_lines start (file_walk file)) out to
-  listing_ends r e =
-      record {
-        bytes = sym (put-nothing out to) ∙ ap (put out to) (sym e) ∙ l.rest;
-        ends = omega (arith, l.ends, ap length e);
-        fits = omega (arith, l.few, l.short);
-      }
+module _ {file : List ℕ} {old text : Text} {p : Position} (l : Listing file old text p) where
+  pub listing_ends : room ≤ length old.buffer.now → lines_from file p ≡ [] → Puts old (chunk_lines start (file_walk file)) text
+  listing_ends r e = l.rest text (rw e (puts_nothing (omega (arith, l.few, l.short, l.same_size))))
 
   module _ {c : ChunkAt} (g : Goes file p.cursor c) (h : length file ≤ input_limit) where
     -- there is a chunk more, and so room for its line
     pub one-fits : prelude_len + 8 * (chunks_before p + 1) ≤ input_limit
     one-fits = omega (arith, g.there, l.walked.chunks_le)
 
-    pub listing_more : {after : List ℕ} {end : ℕ} → Walked (past_at file p c) → Written out to (line_at p c.kind) after end → end ≤ to + 86
-        → Listing file out₀ after (past_at file p c) end
-    listing_more {after} {end} v w b =
-        let line : List ℕ = line_at p c.kind in
-        let rest : List ℕ = lines_from file (past_at file p c) in
-        let e = lines_on file p c g in
+    pub listing_more : {after : Text} → Walked (past_at file p c) → Puts text (line_at p c.kind) after → after.len ≤ text.len + 86
+        → Listing file old after (past_at file p c)
+    listing_more {after} v w b =
         let n = one_more file p c in
-        let r : to + length line ≤ length out = omega (arith, w.ends, w.fits) in
         record {
           walked = v;
-          kept = same_size w ∙ l.kept;
+          same_size = w.same_size ∙ l.same_size;
           few = omega (arith, one-fits);
           short = omega (arith, l.short);
-          ends = omega (arith, l.ends, w.ends, ap length e, length-append line rest);
-          rest =
-              ap (λ (k : List ℕ). put k end rest) w.bytes
-              ∙ ap (λ (k : ℕ). put (put out to line) k rest) w.ends
-              ∙ put-put out to line rest r
-              ∙ ap (put out to) (sym e)
-              ∙ l.rest;
+          rest = λ all q. l.rest all (rw (lines_on file p c g) (join w q));
         }

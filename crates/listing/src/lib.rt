@@ -1,7 +1,8 @@
 // The listing of a file, as bytes in a lent buffer.
 #![tactic(auto)]
 
-ghost use Rattle.std.specs.Prelude.{◌+◌, ◌≤◌, length};
+ghost use Rattle.std.specs.Prelude.{◌≡◌, ◌+◌, ◌≤◌, length};
+ghost use Rattle.text.specs.Puts.{Puts};
 ghost use Rattle.text.specs.Written.{Written};
 ghost use Rattle.demuxer.specs.Position.{start};
 ghost use Rattle.walk.specs.Walk.{file_walk};
@@ -11,7 +12,8 @@ ghost use Rattle.listing.specs.Steps.{room};
 
 use demuxer::position::Position;
 use finished::check;
-use lines::{put_chunk_line, put_long_line, put_refusal_line, put_totals_line};
+use lines::{ChunkLine, TotalsLine, put_chunk_line, put_long_line, put_refusal_line, put_totals_line};
+use text::Text;
 use walk::{Step, step_at};
 
 // The longest input that is listed, in bytes.
@@ -22,56 +24,48 @@ pub const INPUT_LIMIT: usize = 65_536;
 pub const ROOM: usize = 11 * INPUT_LIMIT;
 
 // One line for each chunk, of the position that it stands at.
-fn put_chunk_lines(out: &mut [u8], file: &[u8]) -> usize
-    requires room_in_bounds { room ≤ length out.old }
+fn put_chunk_lines(text: &mut Text, file: &[u8])
+    requires empty { text.old.len ≡ 0 }
+    requires room_in_bounds { room ≤ length text.old.buffer.now }
     requires file_len_bound { length file.now ≤ input_limit }
-    ensures written { Written out.old 0 (chunk_lines start (file_walk file.now)) out.new result }
-    ensures result_bound { result + 119 ≤ room }
+    ensures written { Puts text.old (chunk_lines start (file_walk file.now)) text.new }
+    ensures upper_bound { text.new.len + 119 ≤ room }
 {
     let mut position = Position::new();
-    let mut at = 0;
-    loop {
-        let Step::Chunk(chunk) = step_at(file, position.cursor as usize) else {
-            return at;
-        };
+    while let Step::Chunk(chunk) = step_at(file, position.cursor as usize) {
         let kind = chunk.kind;
-        at = put_chunk_line(
-            out,
-            at,
-            kind.is_frame(),
-            position.cursor,
-            position.frames.0,
-            position.samples.0,
-            position.blocks.0,
-        );
+        let line = ChunkLine {
+            frame: kind.is_frame(),
+            offset: position.cursor,
+            frames: position.frames.0,
+            samples: position.samples.0,
+            blocks: position.blocks.0,
+        };
+        put_chunk_line(text, line);
         position = chunk.past(file, position);
     }
 }
 
 // The listing of a file that is not too long.
-fn put_checked_lines(out: &mut [u8], file: &[u8]) -> usize
-    requires room_in_bounds { room ≤ length out.old }
+fn put_checked_lines(text: &mut Text, file: &[u8])
+    requires empty { text.old.len ≡ 0 }
+    requires room_in_bounds { room ≤ length text.old.buffer.now }
     requires file_len_bound { length file.now ≤ input_limit }
-    ensures { Written out.old 0 (checked_lines file.now (check_of file.now)) out.new result }
+    ensures { Puts text.old (checked_lines file.now (check_of file.now)) text.new }
 {
     match check(file) {
         Ok(totals) => {
-            let at = put_chunk_lines(out, file);
-            put_totals_line(
-                out,
-                at,
-                totals.trailer,
-                totals.frames,
-                totals.blocks,
-                totals.samples,
-                totals.paired,
-            )
+            put_chunk_lines(text, file);
+            let line = TotalsLine {
+                trailer: totals.trailer,
+                frames: totals.frames,
+                blocks: totals.blocks,
+                samples: totals.samples,
+                paired: totals.paired,
+            };
+            put_totals_line(text, line);
         }
-        Err(error) => {
-            let number = error.number();
-            let place = error.place();
-            put_refusal_line(out, 0, number, place)
-        }
+        Err(error) => put_refusal_line(text, error.number(), error.place()),
     }
 }
 
@@ -80,8 +74,11 @@ fn put_checked_lines(out: &mut [u8], file: &[u8]) -> usize
 pub fn list(input: &[u8], lines: &mut [u8; ROOM]) -> usize
     ensures { Written lines.old 0 (listing_of input.now) lines.new result }
 {
+    let mut text = Text::new(lines);
     if INPUT_LIMIT < input.len() {
-        return put_long_line(lines, 0);
+        put_long_line(&mut text);
+    } else {
+        put_checked_lines(&mut text, input);
     }
-    put_checked_lines(lines, input)
+    text.len()
 }

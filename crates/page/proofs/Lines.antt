@@ -1,9 +1,9 @@
 -- A line of the page and a turn of the loops: how long it is, when the samples are narrow, and that lines one after another make the page;
 -- and how its questions can end.
 -- Assumes nothing.
-use mathlib.Core.Path.{◌≡◌, refl, sym, ap, ◌∙◌}
+use mathlib.Core.Path.{◌≡◌, refl, sym}
 use mathlib.Core.Bool.{Bool, true, false}
-use mathlib.Core.List.{List, ◌∷◌, ◌++◌}
+use mathlib.Core.List.{List, ◌++◌}
 use Prim.Native.Nat.{ℕ, ◌+◌, ◌*◌, ◌≤◌, ◌<◌}
 use native.Mathlib.Decide.{dec_le}
 use native.Mathlib.Omega.{arith}
@@ -14,7 +14,7 @@ use Rattle.error.specs.Answer.{Answer, accepted, refused, numbered, ask, and_the
 use Rattle.error.specs.declared.Refusal.{Refusal}
 use Rattle.error.proofs.Answers.{never, clash}
 use Rattle.fields.specs.Le.{Bytes, put}
-use Rattle.fields.proofs.Laws.{le-lt, put-put}
+use Rattle.fields.proofs.Laws.{le-lt}
 use Rattle.chunk.specs.Chunk.{video_tag}
 use Rattle.chunk_index.specs.Entry.{entry_at, entries_of}
 use Rattle.chunk_index.specs.declared.entry.ChunkIndexEntry.{ChunkIndexEntry}
@@ -89,17 +89,6 @@ length-line e f =
       length-append a (b ++ c),
       length-append b c,
     )
-
--- a line, and the lines of the other records after it
-pub lines_on : (page : List ℕ) (off : ℕ) {next : List ℕ} (e : ChunkIndexEntry) (es : List ChunkIndexEntry) → Fits e → off + columns ≤ length page
-    → next ≡ put page off (page_line e) → put next (off + columns) (page_lines es) ≡ put page off (page_lines (e ∷ es))
-unfolding page_lines
-lines_on page off e es f h p =
-    let l = length-line e f in
-    let o : off + columns ≡ off + length (page_line e) = omega arith in
-    ap (λ (xs : List ℕ). put xs (off + columns) (page_lines es)) p
-    ∙ ap (λ (i : ℕ). put (put page off (page_line e)) i (page_lines es)) o
-    ∙ put-put page off (page_line e) (page_lines es) (omega arith)
 
 -- ---- what the questions let pass
 

@@ -1,9 +1,6 @@
 -- The page: the records of an index as lines for a strip printer. Document 02, M-100. Assumes nothing.
 use Rattle.std.specs.Prelude.{ℕ, ◌*◌, Bool, List, [], ◌∷◌, ◌++◌, leb, eqb, length}
-use Rattle.std.specs.Prelude.{Result, Ok, Err}
-use Rattle.error.specs.declared.AmvError.{AmvError}
 use Rattle.error.specs.Answer.{Answer, accepted, refused, ask, and_then}
-use Rattle.error.specs.Refusal.{refusal_of}
 use Rattle.fields.specs.Le.{put}
 use Rattle.chunk.specs.Chunk.{video_tag}
 use Rattle.chunk_index.specs.Entry.{entries_of}
@@ -52,4 +49,3 @@ printed_from page es (refused r) = record { answer = refused r; page = page }
 -- 02's page of a table, in a lent buffer
 unfoldable pub print_of : List ℕ → List ℕ → Printing
 print_of table page = printed_from page (entries_of table) (page_questions table (length page))
-

@@ -4,7 +4,7 @@
 ghost use Rattle.std.specs.Prelude.{◌≡◌, ◌+◌, ◌*◌, ◌≤◌, length};
 ghost use Rattle.error.specs.Answer.{accepted};
 ghost use Rattle.error.specs.Refusal.{said};
-ghost use Rattle.fields.specs.Le.{put};
+ghost use Rattle.text.specs.Puts.{Puts};
 ghost use Rattle.chunk_index.specs.Entry.{entries_of};
 ghost use Rattle.table.specs.Table.{ask_each};
 ghost use Rattle.table.specs.Steps.{most_samples};
@@ -14,7 +14,7 @@ ghost use Rattle.page.specs.Steps.{Fits};
 use chunk_index::entry::ChunkIndexEntry;
 use error::AmvError;
 use table::ask_table;
-use text::{put_kind, put_right};
+use text::Text;
 
 // The columns of a line: kind, offset, frames and samples.
 pub const COLUMNS: usize = 40;
@@ -55,47 +55,40 @@ fn ask_samples(table: &[u8], most: u64) -> Result<(), AmvError>
 fn ask_page(table: &[u8], room: usize) -> Result<(), AmvError>
     ensures { said result ≡ page_questions table.now room }
 {
-    match ask_table(table) {
-        Err(e) => Err(e),
-        Ok(most) => {
-            if let Err(e) = ask_samples(table, most) {
-                return Err(e);
-            }
-            if room / COLUMNS < table.len() / ChunkIndexEntry::LEN {
-                return Err(AmvError::TableTooShort);
-            }
-            Ok(())
-        }
+    let most = ask_table(table)?;
+    ask_samples(table, most)?;
+    if room / COLUMNS < table.len() / ChunkIndexEntry::LEN {
+        return Err(AmvError::TableTooShort);
     }
+    Ok(())
 }
 
 // Puts the line of a record.
-fn put_line(page: &mut [u8], off: usize, e: ChunkIndexEntry)
-    requires columns_in_bounds { off + columns ≤ length page.old }
+fn put_line(text: &mut Text, e: ChunkIndexEntry)
+    requires columns_in_bounds { text.old.len + columns ≤ length text.old.buffer.now }
     requires fits { Fits e }
-    ensures { page.new ≡ put page.old off (page_line e) }
+    ensures written { Puts text.old (page_line e) text.new }
+    ensures value { text.new.len ≡ text.old.len + columns }
 {
     let position = e.position;
-    let a = put_kind(page, off, e.tag == chunk::VIDEO_CHUNK_TAG);
-    let b = put_right(page, a, 10, position.cursor);
-    let c = put_right(page, b, 10, position.frames.0);
-    put_right(page, c, 19, position.samples.0);
+    text.put_kind(e.tag == chunk::VIDEO_CHUNK_TAG);
+    text.put_right(10, position.cursor);
+    text.put_right(10, position.frames.0);
+    text.put_right(19, position.samples.0);
 }
 
 // Puts a line for each record, one after another.
-fn put_lines(page: &mut [u8], table: &[u8])
-    requires table_in_bounds { columns * length (entries_of table.now) ≤ length page.old }
+fn put_lines(text: &mut Text, table: &[u8])
+    requires table_in_bounds { text.old.len + columns * length (entries_of table.now) ≤ length text.old.buffer.now }
     requires table_value { ask_each narrow_samples 70 0 (entries_of table.now) ≡ accepted tt }
-    ensures { page.new ≡ put page.old 0 (page_lines (entries_of table.now)) }
+    ensures { Puts text.old (page_lines (entries_of table.now)) text.new }
 {
-    let mut off: usize = 0;
     let mut at: usize = 0;
     let mut left = table.len();
     while ChunkIndexEntry::LEN <= left {
         left -= ChunkIndexEntry::LEN;
-        put_line(page, off, ChunkIndexEntry::read(table, at));
+        put_line(text, ChunkIndexEntry::read(table, at));
         at += ChunkIndexEntry::LEN;
-        off += COLUMNS;
     }
 }
 
@@ -106,11 +99,8 @@ pub fn print_index(table: &[u8], page: &mut [u8]) -> Result<usize, AmvError>
     ensures result_value { said result ≡ (print_of table.now page.old).answer }
     ensures page_after { page.new ≡ (print_of table.now page.old).page }
 {
-    match ask_page(table, page.len()) {
-        Err(e) => Err(e),
-        Ok(()) => {
-            put_lines(page, table);
-            Ok(table.len() / ChunkIndexEntry::LEN)
-        }
-    }
+    ask_page(table, page.len())?;
+    let mut text = Text::new(page);
+    put_lines(&mut text, table);
+    Ok(table.len() / ChunkIndexEntry::LEN)
 }

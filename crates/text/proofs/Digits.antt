@@ -9,7 +9,7 @@ use native.Mathlib.Omega.{arith}
 use borrow.Author.Tests.{lt-ltb, le-ltb}
 use lib.ListN.{length, get_or, set, length-append}
 use Rattle.fields.specs.Le.{put}
-use Rattle.fields.proofs.Laws.{length-put, put-before, put-nothing}
+use Rattle.fields.proofs.Laws.{put-before, put-nothing}
 use Rattle.text.specs.Text.{digits, decimal}
 use Rattle.text.specs.Written.{Written}
 
@@ -152,9 +152,6 @@ pub record Putting (xs ys : List ℕ) (end n i rest : ℕ) : Type 0 where
 -- what is left has room
 room : {xs ys : List ℕ} {end n i rest : ℕ} (p : Putting xs ys end n i rest) → length (digits (suc p.left) rest) ≤ i + 1
 room {rest = rest} p = omega (arith, ap length p.all, length-append (digits (suc p.left) rest) p.done, p.fits, p.ends)
-
-pub kept : {xs ys : List ℕ} {end n i rest : ℕ} → Putting xs ys end n i rest → length ys ≡ length xs
-kept {xs} p = ap length p.bytes ∙ length-put xs _ p.done (omega (arith, p.ends, p.within))
 
 pub begin : (xs : List ℕ) (end n : ℕ) → n < 18446744073709551616 → length (decimal n) ≤ end → end ≤ length xs → Putting xs xs end n (end - 1) n
 begin xs end n h f w =

@@ -1,15 +1,18 @@
 -- Words put one after another: the buffer keeps its length, and a word right after another makes one longer word; a number over the last of
 -- some spaces stands at their right. Assumes nothing.
-use mathlib.Core.Path.{◌≡◌, sym, ap, ◌∙◌}
-use mathlib.Core.List.{List, [], ◌∷◌, ◌++◌}
-use Prim.Native.Nat.{ℕ, ◌+◌, ◌-◌, ◌≤◌, ◌<◌}
+use mathlib.Core.Path.{◌≡◌, refl, sym, ap, ◌∙◌}
+use mathlib.Core.List.{List, [], ◌++◌}
+use Prim.Native.Nat.{ℕ, ◌+◌, ◌-◌, ◌≤◌}
 use native.Mathlib.Omega.{arith}
-use lib.ListN.{length, set, take, drop, length-append, length-replicate, replicate-append-replicate}
-use lib.Seq.{take_at, drop_at, length-take-le}
+use lib.ListN.{length, take, drop, length-append, length-replicate, length-take, length-drop, replicate-append-replicate}
+use lib.Seq.{take_at, drop_at, drop-drop, length-take-le}
+use borrow.Rule.Slice.PartMut.{put_mid}
 use Rattle.fields.specs.Le.{put}
-use Rattle.fields.proofs.Laws.{put_one, put-put, put-over, length-put}
+use Rattle.fields.proofs.Laws.{put-put, put-nothing, put-over, length-put}
 use Rattle.text.specs.Text.{decimal, spaces, right}
 use Rattle.text.specs.Written.{Written}
+use Rattle.text.specs.Puts.{Puts}
+use Rattle.text.specs.declared.Text.{Text}
 
 pub same_size : {xs ys word : List ℕ} {off end : ℕ} → Written xs off word ys end → length ys ≡ length xs
 same_size {xs} {ys} {word} {off} {end} p = ap length p.bytes ∙ length-put xs off word (omega (arith, p.ends, p.fits))
@@ -18,9 +21,22 @@ same_size {xs} {ys} {word} {off} {end} p = ap length p.bytes ∙ length-put xs o
 pub ends_within : {xs ys word : List ℕ} {off end : ℕ} → Written xs off word ys end → end ≤ length ys
 ends_within p = rw (same_size p) p.fits
 
+-- a text with a word behind it, where there is room
+pub puts : {s t : Text} {word : List ℕ} → s.len + length word ≤ length s.buffer.now → t.buffer.now ≡ put s.buffer.now s.len word
+    → t.len ≡ s.len + length word → t.buffer.ghost_name ≡ s.buffer.ghost_name → Puts s word t
+puts {s} {t} {word} h b e n =
+    record {
+      written = record { bytes = b; ends = e; fits = omega arith };
+      same_buffer = n;
+      same_size = ap length b ∙ length-put s.buffer.now s.len word h;
+    }
+
+pub puts_nothing : {s : Text} → s.len ≤ length s.buffer.now → Puts s [] s
+puts_nothing {s} h = puts (omega arith) (sym (put-nothing s.buffer.now s.len)) (omega arith) refl
+
 -- a word right after another is one
-pub join : {xs ys zs : List ℕ} {off m n : ℕ} {a b : List ℕ} → Written xs off a ys m → Written ys m b zs n → Written xs off (a ++ b) zs n
-join {xs} {ys} {zs} {off} {m} {n} {a} {b} p q =
+join_written : {xs ys zs : List ℕ} {off m n : ℕ} {a b : List ℕ} → Written xs off a ys m → Written ys m b zs n → Written xs off (a ++ b) zs n
+join_written {xs} {ys} {zs} {off} {m} {n} {a} {b} p q =
     let h : off + length a ≤ length xs = omega (arith, p.ends, p.fits) in
     let l : length ys ≡ length xs = same_size p in
     record {
@@ -33,10 +49,15 @@ join {xs} {ys} {zs} {off} {m} {n} {a} {b} p q =
       fits = omega (arith, q.fits);
     }
 
-pub same : {xs ys a b : List ℕ} {off n : ℕ} → Written xs off a ys n → a ≡ b → Written xs off b ys n
-same p e = rw e at p
+pub join : {s t u : Text} {a b : List ℕ} → Puts s a t → Puts t b u → Puts s (a ++ b) u
+join p q =
+    record {
+      written = join_written p.written q.written;
+      same_buffer = q.same_buffer ∙ p.same_buffer;
+      same_size = q.same_size ∙ p.same_size;
+    }
 
--- and stands from its start to its end
+-- a word stands from its start to its end
 pub part : {xs ys word : List ℕ} {off end : ℕ} → Written xs off word ys end → take (end - off) (drop off ys) ≡ word
 unfolding put
 part {xs} {ys} {word} {off} {end} p =
@@ -46,19 +67,12 @@ part {xs} {ys} {word} {off} {end} p =
     ∙ ap (take (end - off)) (drop_at (take off xs) (word ++ drop (off + length word) xs) off l)
     ∙ take_at word (drop (off + length word) xs) (end - off) n
 
--- ---- right-aligned
+-- a part of a buffer that was written whole
+pub part_put : (xs ys : List ℕ) (off k : ℕ) → k ≡ length ys → put_mid off k xs ys ≡ put xs off ys
+unfolding put
+part_put xs ys off k e = ap (λ (l : List ℕ). take off xs ++ (ys ++ l)) (drop-drop k off xs ∙ ap (λ (n : ℕ). drop (off + n) xs) e)
 
--- one space more
-pub space_more : (xs : List ℕ) (off i : ℕ) {ys : List ℕ} → off + i < length xs → ys ≡ put xs off (spaces i) → set ys (off + i) 32 ≡ put xs off (spaces (i + 1))
-space_more xs off i {ys} h e =
-    let l : length (spaces i) ≡ i = length-replicate i 32 in
-    let k : off + i ≡ off + length (spaces i) = omega arith in
-    let s : length (put xs off (spaces i)) ≡ length xs = length-put xs off (spaces i) (omega arith) in
-    ap (λ (zs : List ℕ). set zs (off + i) 32) e
-    ∙ put_one (put xs off (spaces i)) (off + i) 32 (omega arith)
-    ∙ ap (λ (n : ℕ). put (put xs off (spaces i)) n (32 ∷ [])) k
-    ∙ put-put xs off (spaces i) (32 ∷ []) (omega arith)
-    ∙ ap (put xs off) (replicate-append-replicate i 1 32)
+-- ---- right-aligned
 
 pub length-right : (width n : ℕ) → length (decimal n) ≤ width → length (right width n) ≡ width
 unfolding right
@@ -90,3 +104,11 @@ aligned {xs} {ys} {zs} {off} {from} {end} width n h f at e w =
       ends = omega (arith, length-append (spaces k) (decimal n));
       fits = omega arith;
     }
+
+-- columns of a buffer, blanked
+pub spaces_put : (xs ys : List ℕ) (off k width : ℕ) → off + width ≤ length xs → k ≡ width → ys ≡ spaces (length (take k (drop off xs)))
+    → put_mid off k xs ys ≡ put xs off (spaces width)
+spaces_put xs ys off k width f w e =
+    let l : length (take k (drop off xs)) ≡ width = simp (length-take, length-drop) (omega arith) in
+    let r : ys ≡ spaces width = rw l at e in
+    part_put xs ys off k (omega (arith, ap length r, length-replicate {A = ℕ} width 32)) ∙ ap (put xs off) r

@@ -3,11 +3,17 @@
 -- Assumes nothing.
 use mathlib.Core.Path.{refl}
 use native.Mathlib.Omega.{arith}
+use Rattle.text.specs.Puts.{Puts}
+use Rattle.listing.specs.Listing.{listing_of}
 use Rattle.listing.proofs.Laws.{long_listed, checked_listed}
 use Rattle.listing.proofs.list.Goals as goal
 
-pub returns-then-input-gt-INPUT_LIMIT : goal.returns-then-input-gt-INPUT_LIMIT
-returns-then-input-gt-INPUT_LIMIT c = rw (long_listed c.args.input.now (omega arith)) c.put_long_line.ensures.written
-
 pub returns : goal.returns
-returns c = rw (checked_listed c.args.input.now _ (omega arith) refl) c.put_checked_lines.ensures
+returns c =
+    let i = c.if-input-gt-INPUT_LIMIT in
+    let puts : Puts c.new-text.result (listing_of c.args.input.now) i.text =
+    elim i.branch [
+      | goal.then-input-gt-INPUT_LIMIT w ↦ rw (w.text-is, long_listed c.args.input.now (omega arith)) w.put_long_line.ensures.written
+      | goal.else-input-gt-INPUT_LIMIT w ↦ rw (w.text-is, checked_listed c.args.input.now _ (omega arith) refl) w.put_checked_lines.ensures
+    ] in
+    rw c.len.ensures (rw (c.new-text.ensures.len, c.new-text.ensures.bytes) at puts.written)

@@ -6,4 +6,4 @@ use Rattle.text.proofs.Laws.{join}
 use Rattle.listing.proofs.put_checked_lines.Goals as goal
 
 pub returns-in-Ok : goal.returns-in-Ok
-returns-in-Ok c = rw (sym c.in-Ok.ensures) (join c.put_chunk_lines-at.ensures.written c.put_totals_line.ensures.written)
+returns-in-Ok c = rw (sym c.in-Ok.ensures) (join c.put_chunk_lines.ensures.written c.put_totals_line.ensures.written)

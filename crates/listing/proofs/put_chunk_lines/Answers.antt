@@ -1,5 +1,5 @@
--- `listing::put_chunk_lines` meets its contract. The invariant of its loop: the bytes that are written and the lines that are left are all of the
--- lines (`Listing`). The measure is the bytes of the file from here on. A step of the walk is one more line (`listing_more`) or the end.
+-- `listing::put_chunk_lines` meets its contract. The invariant of its loop: whoever puts the lines that are left has put all of them (`Listing`). The
+-- measure is the bytes of the file from here on. A step of the walk is one more line (`listing_more`) or the end.
 -- Assumes nothing.
 use mathlib.Core.Path.{sym, subst}
 use native.Mathlib.Omega.{arith}
@@ -9,13 +9,13 @@ use Rattle.walk.proofs.Walks.{step_means, stopped, past-cursor}
 use Rattle.listing.proofs.Turns.{lines-stop, listing_ends, listing_more}
 use Rattle.listing.proofs.put_chunk_lines.Goals as goal
 
-pub returns-in_default : goal.returns-in_default
-returns-in_default c =
+pub returns : goal.returns
+returns c =
     let l = c.loop-chunk in
     let e = (stopped _ _ _ (sym c.step_at.ensures) c.in_default.not-Chunk).1 in
     record {
       written = listing_ends l.invariant c.requires.room_in_bounds (lines-stop _ l.position e);
-      result_bound = omega (arith, l.invariant.few, l.invariant.short);
+      upper_bound = omega (arith, l.invariant.few, l.invariant.short);
     }
 
 pub past-position-requires-clause-cursor_in_bounds : goal.past-position-requires-clause-cursor_in_bounds
@@ -31,7 +31,7 @@ loop-chunk-smaller c =
 pub loop-chunk-preserved : goal.loop-chunk-preserved
 loop-chunk-preserved c =
     let g = step_means _ _ (step.Chunk c.in-Chunk.chunk) (sym c.in-Chunk.ensures) in
-    let w = c.put_chunk_line-at.ensures in
+    let w = c.put_chunk_line.ensures in
     let v = subst Walked c.past-position.ensures.0 c.past-position.ensures.1 in
     let line = rw c.is_frame.ensures at w.written in
     rw c.past-position.ensures.0 (listing_more c.loop-chunk.invariant g c.requires.file_len_bound v line w.upper_bound)

@@ -1,7 +1,8 @@
 -- `page::ask_page` meets its contract. 41 and 43 are what `ask_table` says (`table_ok`, `table_err`), 70 is what `ask_samples` says, and the last test is
 -- the question 40.
 -- Assumes nothing.
-use mathlib.Core.Path.{◌≡◌, sym}
+use mathlib.Core.Path.{◌≡◌, refl}
+use Rattle.error.proofs.Answers.{passed_on}
 use mathlib.Core.List.{List}
 use Prim.Native.Nat.{ℕ, ◌*◌, ◌/◌, ◌≤◌, ◌<◌}
 use native.Mathlib.Omega.{arith}
@@ -29,34 +30,38 @@ no_room table h = omega (arith, length-entries (length table / entry_len) table 
 has_room : (table : List ℕ) {room : ℕ} → length table / entry_len ≤ room / columns → columns * length (entries_of table) ≤ room
 has_room table h = omega (arith, length-entries (length table / entry_len) table 0)
 
-pub ask_samples-requires : goal.ask_samples-requires
-ask_samples-requires c = (table_ok c.args.table.now c.ask_table.ensures c.in-Ok.is).1
+pub returns-in_err-most : goal.returns-in_err-most
+unfolding page_questions
+returns-in_err-most c = rw (passed_on _ _ c.from_residual.ensures, table_err c.args.table.now c.in_err-most.ensures refl)
 
-pub returns-in-Err-ask_samples : goal.returns-in-Err-ask_samples
-returns-in-Err-ask_samples c =
+pub ask_samples-requires : goal.ask_samples-requires
+ask_samples-requires c = (table_ok c.args.table.now c.in_ok-most.ensures refl).1
+
+pub returns-in_err-ask_samples : goal.returns-in_err-ask_samples
+returns-in_err-ask_samples c =
     let a = c.args in
-    rw (asked-before a.table.now a.room (table_ok a.table.now c.ask_table.ensures c.in-Ok.is).0, sym c.in-Err-ask_samples.ensures)
+    rw (
+      passed_on _ _ c.from_residual-in_err-ask_samples.ensures,
+      asked-before a.table.now a.room (table_ok a.table.now c.in_ok-most.ensures refl).0,
+      ← c.in_err-ask_samples.ensures,
+    )
 
 pub returns-then-room-table : goal.returns-then-room-table
 returns-then-room-table c =
     let a = c.args in
     let few : a.room < columns * length (entries_of a.table.now) = no_room a.table.now c.if-room-table.true in
     rw (
-      asked-before a.table.now a.room (table_ok a.table.now c.ask_table.ensures c.in-Ok.is).0,
-      sym c.in_default.ensures,
+      asked-before a.table.now a.room (table_ok a.table.now c.in_ok-most.ensures refl).0,
+      ← c.in_ok-ask_samples.ensures,
       lt-leb _ _ few,
     )
 
-pub returns-in-Err : goal.returns-in-Err
-unfolding page_questions
-returns-in-Err c = rw (table_err _ c.ask_table.ensures c.in-Err.is)
-
-pub returns-else-room-table : goal.returns-else-room-table
-returns-else-room-table c =
+pub returns : goal.returns
+returns c =
     let a = c.args in
     let enough : columns * length (entries_of a.table.now) ≤ a.room = has_room a.table.now c.if-room-table.false in
     rw (
-      asked-before a.table.now a.room (table_ok a.table.now c.ask_table.ensures c.in-Ok.is).0,
-      sym c.in_default.ensures,
+      asked-before a.table.now a.room (table_ok a.table.now c.in_ok-most.ensures refl).0,
+      ← c.in_ok-ask_samples.ensures,
       le-leb _ _ enough,
     )

@@ -7,20 +7,17 @@ use Rattle.page.specs.Page.{page_line}
 use Rattle.page.proofs.Lines.{narrow}
 use Rattle.page.proofs.put_line.Goals as goal
 
-pub put_right-b-requires : goal.put_right-b-requires
-put_right-b-requires c =
-    record { width_in_bounds = omega arith; n_len_bound = (narrow c.args.e c.requires.fits).offset }
+pub put_right-requires-clause-n_len_bound : goal.put_right-requires-clause-n_len_bound
+put_right-requires-clause-n_len_bound c = (narrow c.args.e c.requires.fits).offset
 
-pub put_right-c-requires : goal.put_right-c-requires
-put_right-c-requires c =
-    record { width_in_bounds = omega arith; n_len_bound = (narrow c.args.e c.requires.fits).frames }
+pub put_right-requires-2-clause-n_len_bound : goal.put_right-requires-2-clause-n_len_bound
+put_right-requires-2-clause-n_len_bound c = (narrow c.args.e c.requires.fits).frames
 
-pub put_right-requires : goal.put_right-requires
-put_right-requires c =
-    record { width_in_bounds = omega arith; n_len_bound = omega (arith, (narrow c.args.e c.requires.fits).samples) }
+pub put_right-requires-3-clause-n_len_bound : goal.put_right-requires-3-clause-n_len_bound
+put_right-requires-3-clause-n_len_bound c = omega (arith, (narrow c.args.e c.requires.fits).samples)
 
-pub returns : goal.returns
+pub returns-clause-written : goal.returns-clause-written
 unfolding page_line
-returns c =
-    (join c.put_kind-a.ensures.written
-    (join c.put_right-b.ensures.written (join c.put_right-c.ensures.written c.put_right.ensures.written))).bytes
+returns-clause-written c =
+    join c.put_kind.ensures.written
+    (join c.put_right.ensures.written (join c.put_right-2.ensures.written c.put_right-3.ensures.written))

@@ -1,11 +1,12 @@
--- `page::put_lines` meets its contract. The invariant of its loop: the lines of the records that are left, put where the last line ended, make the page;
--- they have passed 70, and there is room for them. The measure is what is left of the table; `lines_on` is a turn.
+-- `page::put_lines` meets its contract. The invariant of its loop: whoever puts the lines of the records that are left has put all lines; the records have
+-- passed 70, and there is room for their lines. The measure is what is left of the table. `join` is a turn.
 -- Assumes nothing.
 use mathlib.Core.Path.{◌≡◌}
 use Prim.Native.Nat.{◌+◌, ◌*◌, ◌/◌, ◌≤◌}
 use lib.ListN.{length}
 use Rattle.error.specs.Answer.{accepted}
-use Rattle.fields.specs.Le.{put}
+use Rattle.text.specs.Puts.{Puts}
+use Rattle.text.specs.declared.Text.{Text}
 use Rattle.chunk_index.specs.Entry.{entry_len, entries_from, entries_of}
 use Rattle.table.specs.Table.{ask_each}
 use Rattle.page.specs.Page.{columns, narrow_samples, page_lines}
@@ -14,10 +15,9 @@ use Rattle.page.proofs.put_lines.Given as goal
 abbrev pub invariant-loop-left : goal.invariant-loop-left
 invariant-loop-left l =
     (l.at + l.left ≡ length l.table)
-    × (length l.page ≡ length l.initial.page)
-    × (l.off + columns * (l.left / entry_len) ≤ length l.page)
+    × (l.text.len + columns * (l.left / entry_len) ≤ length l.text.buffer.now)
     × (ask_each narrow_samples 70 l.at (entries_from (l.left / entry_len) l.table l.at) ≡ accepted tt)
-    × (put l.page l.off (page_lines (entries_from (l.left / entry_len) l.table l.at)) ≡ put l.initial.page 0 (page_lines (entries_of l.table)))
+    × ((all : Text) → Puts l.text (page_lines (entries_from (l.left / entry_len) l.table l.at)) all → Puts l.initial.text (page_lines (entries_of l.table)) all)
 
 abbrev pub decreases-loop-left : goal.decreases-loop-left
 decreases-loop-left l = l.left

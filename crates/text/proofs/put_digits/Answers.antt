@@ -2,7 +2,7 @@
 -- has changed (`Putting`). The measure is `i`. `turn` moves one digit and keeps `i` from 0, and `first` puts the first digit.
 -- Assumes nothing.
 use native.Mathlib.Omega.{arith}
-use Rattle.text.proofs.Digits.{digits_some, kept, begin, turn, first}
+use Rattle.text.proofs.Digits.{digits_some, begin, turn, first}
 use Rattle.text.proofs.put_digits.Goals as goal
 
 pub overflow_sub-i : goal.overflow_sub-i
@@ -10,9 +10,6 @@ overflow_sub-i c = omega (arith, digits_some 19 c.args.n)
 
 pub loop-rest-init : goal.loop-rest-init
 loop-rest-init c = begin c.args.out.now c.args.end c.args.n (omega arith) c.requires.n_len_bound c.requires.end_in_bounds
-
-pub bounds-out-i : goal.bounds-out-i
-bounds-out-i c = let p = c.loop-rest.invariant in omega (arith, kept p, p.ends, p.within)
 
 pub overflow_sub-i-in-loop-rest : goal.overflow_sub-i-in-loop-rest
 overflow_sub-i-in-loop-rest c = let t = turn c.loop-rest-test.true c.loop-rest.invariant in omega (arith, t.below)
@@ -22,9 +19,6 @@ loop-rest-smaller c = let t = turn c.loop-rest-test.true c.loop-rest.invariant i
 
 pub loop-rest-preserved : goal.loop-rest-preserved
 loop-rest-preserved c = (turn c.loop-rest-test.true c.loop-rest.invariant).on
-
-pub bounds-out-i-2 : goal.bounds-out-i-2
-bounds-out-i-2 c = let p = c.loop-rest.invariant in omega (arith, kept p, p.ends, p.within)
 
 pub returns : goal.returns
 returns c = first (omega arith) c.loop-rest.invariant
