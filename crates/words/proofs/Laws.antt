@@ -1,6 +1,6 @@
 -- What a call says, by its answer: accepted with its words, or refused with its number and place; and the words of a packet. Assumes nothing.
 use mathlib.Core.Path.{◌≡◌, sym, ap, subst, ◌∙◌}
-use Rattle.std.proofs.Common.{Option, Some, None}
+use Rattle.std.proofs.Common.{Some}
 use Prim.Native.Nat.{ℕ, ◌-◌}
 use mathlib.Core.List.{List, ◌∷◌}
 use lib.ListN.{replicate}

@@ -5,7 +5,7 @@ use mathlib.Core.Bool.{Bool, true, false, ◌&&◌}
 use mathlib.Core.List.{List, [], ◌∷◌}
 use native.Mathlib.Omega.{arith}
 use borrow.Author.Tests.{leb-true, eqb-true, eqb-false}
-use lib.Dec.{leb, eqb}
+use lib.Dec.{leb}
 use lib.ListN.{length, drop}
 use lib.Seq.{drop-cons, drop-length}
 use Rattle.error.specs.Answer.{accepted}
@@ -14,7 +14,8 @@ use Rattle.demuxer.specs.Read.{advanced}
 use Rattle.demuxer.specs.declared.position.Position.{Position}
 use Rattle.demuxer.specs.declared.walker.Walker.{Walker}
 use Rattle.muxer.specs.declared.Writer.{Writer}
-use Rattle.words.specs.State.{word, mark_of, mark_word, not_met, trailer_of, trailer_word, ask_state, walker_legal, walker_of, walker_words, position_into, settings_legal, writer_legal, writer_of, writer_words, counts_into, WordsStand}
+use Rattle.words.specs.State.{word, mark_of, mark_word, trailer_of, trailer_word, ask_state, walker_legal, walker_of, walker_words}
+use Rattle.words.specs.State.{position_into, settings_legal, writer_legal, writer_of, writer_words, counts_into, WordsStand}
 
 -- ---- a list by its elements
 
@@ -32,21 +33,10 @@ spelled ws at (suc n) h = ap (λ (l : List ℕ). word ws at ∷ l) (spelled ws (
 -- ---- one word
 
 mark_kept : (n : ℕ) → leb n 1 ≡ true → mark_word (mark_of n) ≡ n
-mark_kept n h = go (eqb n 1) refl
-  where
-    go : (t : Bool) → eqb n 1 ≡ t → mark_word t ≡ n
-    go true e = sym (eqb-true n 1 e)
-    go false e =
-        let d = eqb-false n 1 e in
-        let l = leb-true n 1 h in
-        omega arith
+mark_kept n h = grind (arith, eqb-true, eqb-false, leb-true)
 
 trailer-kept : (n : ℕ) → trailer_word (trailer_of n) ≡ n
-trailer-kept n = go (eqb n not_met) refl
-  where
-    go : (t : Bool) → eqb n not_met ≡ t → trailer_word (trailer_of n) ≡ n
-    go true e = rw e (sym (eqb-true n not_met e))
-    go false e = rw e
+trailer-kept n = grind (arith, eqb-true, eqb-false)
 
 pub mark_back : (mark : Bool) → mark_of (mark_word mark) ≡ mark
 mark_back true = refl

@@ -1,6 +1,5 @@
 -- The two states as words. Assumes nothing.
-use Rattle.std.specs.Prelude.{◌≡◌, ℕ, Bool, true, cond, ◌&&◌, List, [], ◌∷◌, leb, eqb, length, get_or}
-use Rattle.std.specs.Prelude.{Option, Some, None}
+use Rattle.std.specs.Prelude.{◌≡◌, ℕ, Bool, true, cond, ◌&&◌, List, [], ◌∷◌, leb, eqb, length, get_or, Option, Some, None}
 use Rattle.fields.specs.Capped.{u32_max}
 use Rattle.error.specs.Answer.{Answer, accepted, refused, numbered, ask}
 use Rattle.demuxer.specs.declared.position.Position.{Position}
@@ -14,6 +13,10 @@ word ws i = get_or ws i 0
 -- a mark is 0 or 1
 abbrev pub mark_of : ℕ → Bool
 mark_of n = eqb n 1
+
+-- the mark of a word, if it is one
+abbrev pub mark_in : ℕ → Option Bool
+mark_in n = cond (leb n 1) (Some (mark_of n)) None
 
 abbrev pub mark_word : Bool → ℕ
 mark_word mark = cond mark 1 0

@@ -2,52 +2,38 @@
 ghost use Rattle.std.specs.Prelude.{◌≡◌};
 ghost use Rattle.words.specs.State.{writer_of, said_writer, writer_words, counts_into};
 
-use crate::walker::mark_word;
+use crate::walker::{mark_of, mark_word};
 use muxer::{Settings, Writer};
 
-// The largest number that a 32-bit setting holds.
-const LARGEST: u64 = u32::MAX as u64;
-
-// The writer that nine words spell. Illegal where a word is over its field's range, so that no cast loses bits.
+// The writer that nine words spell. None where a word is over its field's range, so that no conversion loses bits.
+#[tactic(auto, unfolding(crate::specs::State::settings_legal, crate::specs::State::writer_legal))]
 pub fn writer_of(words: [u64; 9]) -> Option<Writer>
     ensures { said_writer result ≡ writer_of words }
 {
-    if LARGEST < words[0] {
-        return None;
-    }
-    if LARGEST < words[1] {
-        return None;
-    }
-    if LARGEST < words[2] {
-        return None;
-    }
-    if LARGEST < words[3] {
-        return None;
-    }
-    if 65535 < words[4] {
-        return None;
-    }
-    if 1 < words[5] {
-        return None;
-    }
-    if 1 < words[6] {
-        return None;
-    }
-    let settings = Settings {
-        width: words[0] as u32,
-        height: words[1] as u32,
-        fps: words[2] as u32,
-        rate: words[3] as u32,
-        channels: words[4] as u16,
-    };
-    let writer = Writer {
-        settings,
-        begun: words[5] == 1,
-        ended: words[6] == 1,
-        written: words[7],
-        frames: words[8],
-    };
-    Some(writer)
+    let [
+        width,
+        height,
+        fps,
+        rate,
+        channels,
+        begun,
+        ended,
+        written,
+        frames,
+    ] = words;
+    Some(Writer {
+        settings: Settings {
+            width: u32::try_from(width).ok()?,
+            height: u32::try_from(height).ok()?,
+            fps: u32::try_from(fps).ok()?,
+            rate: u32::try_from(rate).ok()?,
+            channels: u16::try_from(channels).ok()?,
+        },
+        begun: mark_of(begun)?,
+        ended: mark_of(ended)?,
+        written,
+        frames,
+    })
 }
 
 // The nine words of a writer, as a call leaves them for the next one.
@@ -56,11 +42,11 @@ pub fn writer_words(writer: Writer) -> [u64; 9]
 {
     let settings = writer.settings;
     [
-        settings.width as u64,
-        settings.height as u64,
-        settings.fps as u64,
-        settings.rate as u64,
-        settings.channels as u64,
+        u64::from(settings.width),
+        u64::from(settings.height),
+        u64::from(settings.fps),
+        u64::from(settings.rate),
+        u64::from(settings.channels),
         mark_word(writer.begun),
         mark_word(writer.ended),
         writer.written,
@@ -72,7 +58,8 @@ pub fn writer_words(writer: Writer) -> [u64; 9]
 pub fn at_counts(words: [u64; 9], written: u64, frames: u64) -> [u64; 9]
     ensures { result ≡ counts_into written frames words }
 {
+    let [width, height, fps, rate, channels, begun, ended, _, _] = words;
     [
-        words[0], words[1], words[2], words[3], words[4], words[5], words[6], written, frames,
+        width, height, fps, rate, channels, begun, ended, written, frames,
     ]
 }
