@@ -1,4 +1,2 @@
-pub mod Parts
 pub mod Tags
-pub mod Lent
 pub mod Printed

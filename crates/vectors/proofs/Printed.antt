@@ -34,14 +34,10 @@ pub printed_none : (known : Option (List ℕ)) → Appends known known (numbers_
 unfolding numbers_text
 printed_none known = Appends-nil known
 
--- one number more of a list, and of what a list gives
-pub printed_next : (old mid new : Option (List ℕ)) (xs : List ℕ) (i : ℕ) → i < length xs → Appends old mid (numbers_text (take i xs))
-    → Appends mid new (number_text (get_or xs i 0)) → Appends old new (numbers_text (take (i + 1) xs))
-printed_next old mid new xs i h a b = printed_more old mid new (take i xs) (take (i + 1) xs) (get_or xs i 0) a b (take_more xs i 0 h)
-
-pub printed_next_of : {A : Type 0} (f : A → ℕ) (old mid new : Option (List ℕ)) (xs : List A) (i : ℕ) (d : A) → i < length xs
-    → Appends old mid (numbers_text (map f (take i xs))) → Appends mid new (number_text (f (get_or xs i d)))
+-- one number more, where each stands for an item of a list
+pub printed_next : {A : Type 0} (f : A → ℕ) (old mid new : Option (List ℕ)) (xs : List A) (i n : ℕ) (d : A) → i < length xs
+    → Appends old mid (numbers_text (map f (take i xs))) → Appends mid new (number_text n) → n ≡ f (get_or xs i d)
     → Appends old new (numbers_text (map f (take (i + 1) xs)))
-printed_next_of f old mid new xs i d h a b =
-    printed_more old mid new (map f (take i xs)) (map f (take (i + 1) xs)) (f (get_or xs i d)) a b
-    (ap (map f) (take_more xs i d h) ∙ map-append f (take i xs) (get_or xs i d ∷ []))
+printed_next f old mid new xs i n d h a b e =
+    printed_more old mid new (map f (take i xs)) (map f (take (i + 1) xs)) n a b
+    (ap (map f) (take_more xs i d h) ∙ map-append f (take i xs) (get_or xs i d ∷ []) ∙ ap (λ m. map f (take i xs) ++ (m ∷ [])) (sym e))

@@ -1,5 +1,5 @@
 -- Tags put one after another, and what the loop that loads them keeps. Assumes nothing.
-use Rattle.std.proofs.Common.{◌≡◌, ℕ, zero, suc, ◌+◌, ◌*◌, ◌<◌, ◌≤◌, List, [], ◌∷◌, length, set, sym, refl, ap, ◌∙◌, arith, length-append}
+use Rattle.std.proofs.Common.{◌≡◌, ℕ, zero, suc, ◌+◌, ◌*◌, ◌<◌, List, [], ◌∷◌, length, set, sym, refl, ap, ◌∙◌, arith, length-append}
 use Rattle.fields.specs.Le.{le, put}
 use Rattle.fields.proofs.Laws.{put_one, put-put, put-nothing, length-put}
 use Rattle.vectors.specs.Cases.{tags_in}
@@ -25,11 +25,3 @@ tags_more to bytes i v {now} e h q =
     ∙ (λ j. put (e j) (at j) (q j ∷ []))
     ∙ put-put to 0 (tags_in bytes i) (le 4 bytes (4 * i) ∷ []) (omega (arith, l))
     ∙ ap (λ (n : ℕ). put to 0 (tags_in bytes n)) next
-
--- before tag i of n
-pub record Loading (to₀ bytes : List ℕ) (n : ℕ) (to : List ℕ) (i : ℕ) : Type 0 where
-  pub at_most : i ≤ n
-  pub room : n ≤ length to₀
-  pub there : 4 * n ≤ length bytes
-  pub same : length to ≡ length to₀
-  pub tags : to ≡ put to₀ 0 (tags_in bytes i)

@@ -1,27 +1,50 @@
 -- How a stored case is taken apart. Assumes nothing.
-use Rattle.std.specs.Prelude.{◌≡◌, ℕ, zero, suc, ◌+◌, ◌*◌, ◌%◌, ◌<◌, ◌≤◌, min, cond, List, [], ◌∷◌, ◌++◌, length, take, drop, ℤ, pos, negsuc, ◌==◌, slice_index}
-use Rattle.std.specs.Prelude.{Option, Some, None}
+use Rattle.std.specs.Prelude.{◌≡◌, ℕ, zero, suc, ◌+◌, ◌*◌, ◌%◌, ◌<◌, ◌≤◌, min, cond, List, [], ◌∷◌, ◌++◌, length, take, drop, ℤ, pos, negsuc, ◌==◌, slice_index, slice_range, Option, None, Some, Ok, Err}
+use Rattle.std.specs.declared.result.Result.{Result}
 use Rattle.fields.specs.Le.{le}
 use Rattle.chunk_index.specs.Index.{build_of}
 use Rattle.page.specs.Page.{print_of}
 use Rattle.muxer.specs.Writer.{header_call, packet_call, trailer_call}
 use Rattle.capi.specs.Calls.{block_after_call, buffer_after_call}
+use Rattle.vectors.specs.declared.case.Case.{Case}
+use Rattle.vectors.specs.declared.case.Cut.{Cut}
+use Rattle.vectors.specs.declared.function.Function.{Function}
+use Rattle.vectors.specs.declared.function.Function.TheVariants.{BuildChunkIndex, WriteHeader, WritePacket, PrintIndex, RegisterStep}
+use Rattle.vectors.specs.Functions.{Names}
 
--- a case: a byte that names its function, the lengths of two byte strings, twelve words, then the two strings
+-- a case: a byte that names its function, the lengths of two byte strings, twelve words, then the two strings. Where the second of them begins
+abbrev pub second_at : List ℕ → ℕ → ℕ
+second_at input at = at + 113 + le 8 input (at + 1)
+
+-- where the case ends
 abbrev pub case_end : List ℕ → ℕ → ℕ
 case_end input at = at + 113 + le 8 input (at + 1) + le 8 input (at + 9)
-
--- where its parts stand, if the input has all of it
-abbrev pub Parts : List ℕ → ℕ → Option Case → Type 0
-Parts input at (Some c) =
-    (c.first ≡ at + 113) × (c.second ≡ c.first + le 8 input (at + 1)) × (c.end ≡ case_end input at) × (case_end input at ≤ length input)
-Parts input at None = length input < case_end input at
 
 -- its twelve words: three parameters, and nine words of a state
 abbrev pub head_of : List ℕ → ℕ → List ℕ
 head_of input at =
     le 8 input (at + 17) ∷ le 8 input (at + 25) ∷ le 8 input (at + 33) ∷ le 8 input (at + 41) ∷ le 8 input (at + 49) ∷ le 8 input (at + 57)
     ∷ le 8 input (at + 65) ∷ le 8 input (at + 73) ∷ le 8 input (at + 81) ∷ le 8 input (at + 89) ∷ le 8 input (at + 97) ∷ le 8 input (at + 105) ∷ []
+
+-- the parts of a case that the input has whole
+pub record Whole (input : List ℕ) (at : ℕ) (c : Case) : Type 0 where
+  pub named : Names (slice_index input at) c.function
+  pub head : c.words ≡ head_of input at
+  pub first_string : c.first.now ≡ slice_range input (at + 113) (second_at input at)
+  pub second_string : c.second.now ≡ slice_range input (second_at input at) (case_end input at)
+  pub next : c.end ≡ case_end input at
+  pub there : case_end input at ≤ length input
+
+-- a case taken apart, or that the input ends before its end
+abbrev pub Parts : List ℕ → ℕ → Option Case → Type 0
+Parts input at (Some c) = Whole input at c
+Parts input at None = length input < case_end input at
+
+-- a step over the cases of an input: from one offset to the next, or to the input's end where it ends inside a case
+abbrev pub Steps : List ℕ → ℕ → Option (Result Case Cut) → ℕ → Type 0
+Steps input at None after = (length input ≤ at) × (after ≡ at)
+Steps input at (Some (Ok c)) after = (at < length input) × Parts input at (Some c) × (after ≡ c.end)
+Steps input at (Some (Err cut)) after = (at < length input) × Parts input at None × (cut.at ≡ at) × (after ≡ length input)
 
 -- a signed request: -1 by the mark 1, -2^63 by the mark 2
 abbrev pub request_of : ℕ → ℕ → ℤ
@@ -57,11 +80,10 @@ abbrev pub table_in : List ℕ → List ℕ → List ℕ
 table_in bytes head = drop (file_len bytes head) bytes
 
 -- the lent bytes after a case's call: a table, a page, a register block, or a writer's buffer
-abbrev pub lent_after : ℕ → List ℕ → List ℕ → List ℕ → List ℕ
-lent_after function bytes head lent =
-    cond (function == 3) (build_of bytes lent).table
-    (cond (function == 4) (buffer_after_call (λ w. header_call w lent) (writer_in head) lent)
-    (cond (function == 5) (buffer_after_call (λ w. packet_call w bytes (stream_in head) lent) (writer_in head) lent)
-    (cond (function == 13) (print_of bytes lent).page
-    (cond (function == 16) (block_after_call (file_in bytes head) (table_in bytes head) (walker_in head) lent)
-    (buffer_after_call (λ w. trailer_call w lent) (writer_in head) lent)))))
+abbrev pub lent_after : Function → List ℕ → List ℕ → List ℕ → List ℕ
+lent_after BuildChunkIndex bytes head lent = (build_of bytes lent).table
+lent_after WriteHeader bytes head lent = buffer_after_call (λ w. header_call w lent) (writer_in head) lent
+lent_after WritePacket bytes head lent = buffer_after_call (λ w. packet_call w bytes (stream_in head) lent) (writer_in head) lent
+lent_after PrintIndex bytes head lent = (print_of bytes lent).page
+lent_after RegisterStep bytes head lent = block_after_call (file_in bytes head) (table_in bytes head) (walker_in head) lent
+lent_after _ bytes head lent = buffer_after_call (λ w. trailer_call w lent) (writer_in head) lent

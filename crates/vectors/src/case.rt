@@ -1,132 +1,139 @@
-// A stored case, taken apart.
-ghost use Rattle.std.specs.Prelude.{◌≡◌, ◌+◌, ◌<◌, ◌≤◌, length, if◌then◌else◌, nat_lt};
-ghost use Rattle.vectors.specs.Cases.{Parts, head_of};
+// The stored cases of an input, each taken apart.
+ghost use Rattle.std.specs.Prelude.{◌≡◌, ◌+◌, ◌-◌, ◌≤◌, length, slice_index};
+ghost use Rattle.std.specs.Iterator.{at_most};
+ghost use Rattle.vectors.specs.Cases.{Parts, Steps, head_of, request_of, stream_in, walker_in, writer_in};
 
-// The functions that a case may call, by the number in its first byte.
-#[derive(Clone, Copy)]
-pub struct Functions;
-
-impl Functions {
-    // The prelude, as it is or strict.
-    pub const PARSE: usize = 1;
-
-    // One read.
-    pub const NEXT_PACKET: usize = 2;
-
-    // The index into a lent table: the first of the calls that write to lent bytes.
-    pub const BUILD_CHUNK_INDEX: usize = 3;
-
-    // A writer's first call.
-    pub const WRITE_HEADER: usize = 4;
-
-    // A packet.
-    pub const WRITE_PACKET: usize = 5;
-
-    // A writer's last call.
-    pub const WRITE_TRAILER: usize = 6;
-
-    // A jump by an index.
-    pub const SEEK_TO_VIA_INDEX: usize = 7;
-
-    // Whether tags alternate.
-    pub const INTERLEAVE: usize = 8;
-
-    // A packed run length.
-    pub const FROM_FRAME_COUNT: usize = 9;
-
-    // The counts of a file. From here to the listing a case is a whole file and nothing else.
-    pub const SUMMARY: usize = 10;
-
-    // The check of a file.
-    pub const CHECK: usize = 11;
-
-    // The listing of a file.
-    pub const LISTING: usize = 12;
-
-    // The page of an index, again a call that writes to lent bytes.
-    pub const PRINT_INDEX: usize = 13;
-
-    // The samples of a sound block. They are no bytes, so a case says how many entries are lent, and none of them.
-    pub const DECODE_BLOCK: usize = 14;
-
-    // The header of a chunk at an offset of a file.
-    pub const CHUNK_HEADER: usize = 15;
-
-    // A step of the register block, again a call that writes to lent bytes.
-    pub const REGISTER_STEP: usize = 16;
-
-    // One more than the last number, for a table of counts by function.
-    pub const COUNT: usize = 17;
-}
-
-// The function of a case's first byte. Refuses none: a case of no function is run as the first, so that no case is passed over.
-pub fn function_of(byte: u8) -> usize
-    ensures value { result ≡ (if nat_lt byte 17 then byte else 1) }
-    ensures upper_bound { result < 17 }
-{
-    if (byte as usize) < Functions::COUNT {
-        byte as usize
-    } else {
-        Functions::PARSE
-    }
-}
+use crate::function::Function;
+use std::array;
 
 // The bytes of a case before its two byte strings.
-pub const HEAD_LEN: usize = 113;
+const HEAD_LEN: usize = 113;
 
-// Where the two byte strings of a case stand: from first to second, and from second to end.
+// Where its twelve words begin.
+const WORDS_AT: usize = 17;
+
+// Where the words of a state begin among them.
+const STATE_AT: usize = 3;
+
+// A case: the function that it calls, twelve words, two byte strings, and where the next case begins.
 #[derive(Clone, Copy)]
-pub struct Case {
-    pub first: usize,
-    pub second: usize,
+pub struct Case<'a> {
+    pub function: Function,
+
+    // Three parameters, and nine words of a state.
+    pub words: [u64; 12],
+    pub first: &'a [u8],
+    pub second: &'a [u8],
     pub end: usize,
 }
 
-// The case at an offset, taken apart. Short where the input has less than the head or than the lengths in it say.
-pub fn case_at(input: &[u8], at: usize) -> Option<Case>
-    ensures { Parts input.now at result }
-{
-    if input.len() < HEAD_LEN {
-        return None;
+impl<'a> Case<'a> {
+    // The stream in its words.
+    pub fn stream(&self) -> u32
+        ensures { result ≡ stream_in self.now.words }
+    {
+        (self.words[0] % 4294967296) as u32
     }
-    if input.len() - HEAD_LEN < at {
-        return None;
+
+    // The signed request in its words. Of those below 0 the cases have the largest and the smallest, each by a mark.
+    pub fn request(&self) -> i64
+        ensures { result ≡ request_of (slice_index self.now.words 1) (slice_index self.now.words 2) }
+    {
+        match self.words[2] {
+            1 => -1,
+            2 => i64::MIN,
+            _ => (self.words[1] % 9223372036854775808) as i64,
+        }
     }
-    let first = at + HEAD_LEN;
-    let room = (input.len() - first) as u64;
-    let first_len = fields::read_le::<u64>(input, at + 1);
-    let second_len = fields::read_le::<u64>(input, at + 9);
-    if room < first_len {
-        return None;
+
+    // The walker in its words.
+    pub fn walker(&self) -> [u64; 7]
+        ensures { result ≡ walker_in self.now.words }
+    {
+        array::from_fn(|i| self.words[STATE_AT + i])
     }
-    if room - first_len < second_len {
-        return None;
+
+    // The writer in its words.
+    pub fn writer(&self) -> [u64; 9]
+        ensures { result ≡ writer_in self.now.words }
+    {
+        array::from_fn(|i| self.words[STATE_AT + i])
     }
-    let second = first + first_len as usize;
-    Some(Case {
-        first,
-        second,
-        end: second + second_len as usize,
-    })
 }
 
-// The twelve words of a case: three parameters, and nine words of a state.
-pub fn head_of(input: &[u8], at: usize) -> [u64; 12]
+// The twelve words of the case at an offset.
+fn head_of(input: &[u8], at: usize) -> [u64; 12]
     requires { at + 113 ≤ length input.now }
     ensures { result ≡ head_of input.now at }
 {
-    [
-        fields::read_le::<u64>(input, at + 17),
-        fields::read_le::<u64>(input, at + 25),
-        fields::read_le::<u64>(input, at + 33),
-        fields::read_le::<u64>(input, at + 41),
-        fields::read_le::<u64>(input, at + 49),
-        fields::read_le::<u64>(input, at + 57),
-        fields::read_le::<u64>(input, at + 65),
-        fields::read_le::<u64>(input, at + 73),
-        fields::read_le::<u64>(input, at + 81),
-        fields::read_le::<u64>(input, at + 89),
-        fields::read_le::<u64>(input, at + 97),
-        fields::read_le::<u64>(input, at + 105),
-    ]
+    array::from_fn(|i| fields::read_le::<u64>(input, at + (WORDS_AT + 8 * i)))
+}
+
+// The case at an offset, taken apart. None where the input has less than the head or than the lengths in it say.
+pub fn case_at(input: &[u8], at: usize) -> Option<Case<'_>>
+    ensures { Parts input.now at result }
+{
+    // The bytes past the head, which both strings have to fit.
+    let room = input.len().checked_sub(HEAD_LEN)?.checked_sub(at)? as u64;
+    let first_len = fields::read_le::<u64>(input, at + 1);
+    let second_len = fields::read_le::<u64>(input, at + 9);
+    room.checked_sub(first_len)?.checked_sub(second_len)?;
+    let first = at + HEAD_LEN;
+    let second = first + first_len as usize;
+    let end = second + second_len as usize;
+    Some(Case {
+        function: Function::from(input[at]),
+        words: head_of(input, at),
+        first: &input[first..second],
+        second: &input[second..end],
+        end,
+    })
+}
+
+// That the input ends inside the case at an offset.
+#[derive(Clone, Copy)]
+pub struct Cut {
+    pub at: usize,
+}
+
+// The cases of an input, one after another, from an offset. Where the input ends inside a case, the last item says so.
+#[derive(Drop)]
+pub struct Cases<'a> {
+    input: &'a [u8],
+    at: usize,
+}
+
+impl<'a> Cases<'a> {
+    // All cases of an input.
+    pub fn of(input: &'a [u8]) -> Cases<'a>
+        ensures input { result.input.now ≡ input.now }
+        ensures at { result.at ≡ 0 }
+    {
+        Cases { input, at: 0 }
+    }
+}
+
+impl<'a> Iterator for Cases<'a> {
+    type Item = Result<Case<'a>, Cut>;
+
+    ghost next_gives = { λ old next new. (new.input.now ≡ old.input.now) × Steps old.input.now old.at next new.at };
+
+    ghost remaining = { λ cases. at_most (length cases.input.now - cases.at) };
+
+    fn next(&mut self) -> Option<Result<Case<'a>, Cut>> {
+        let at = self.at;
+        if at >= self.input.len() {
+            return None;
+        }
+        match case_at(self.input, at) {
+            Some(case) => {
+                self.at = case.end;
+                Some(Ok(case))
+            }
+            None => {
+                self.at = self.input.len();
+                Some(Err(Cut { at }))
+            }
+        }
+    }
 }

@@ -1,111 +1,64 @@
 // Answers as lines of numbers, to a writer. None refuses; each fails where a write does. A contract says what is written to a writer whose bytes
 // are known.
-ghost use Rattle.std.specs.Prelude.{[], ◌∷◌, ◌++◌, map, codes, OnOk};
+ghost use Rattle.std.specs.Prelude.{◌≡◌, ℕ, [], ◌∷◌, ◌++◌, map, codes, OnOk};
 ghost use Rattle.std.specs.Io.KnownBytes.{Appends};
 ghost use Rattle.vectors.specs.Printed.{number_text, numbers_text, sample_number};
 
 use std::io;
 use std::io::Write;
+use text::Text;
 
-// A space and a number: the form of every number of a line.
+// What is printed as one number: a word, a byte or a sample.
+pub trait Printed {
+    // The number that stands for it.
+    ghost number: { Self → ℕ };
+
+    fn number(&self) -> u64
+        ensures { result ≡ number self.now };
+}
+
+impl Printed for u64 {
+    ghost number = { λ n. n };
+
+    fn number(&self) -> u64 {
+        *self
+    }
+}
+
+impl Printed for u8 {
+    ghost number = { λ n. n };
+
+    fn number(&self) -> u64 {
+        *self as u64
+    }
+}
+
+// A sample is the number of its 16 bits: 65,535 is -1.
+impl Printed for i16 {
+    ghost number = { sample_number };
+
+    fn number(&self) -> u64 {
+        ((*self as i32 + 65536) as u32 % 65536) as u64
+    }
+}
+
+// A space and a number: the form of every number of a line. `write!` says nothing of the bytes that a writer holds, and the clause does.
 fn print_number<W: Write>(printer: &mut W, n: u64) -> io::Result<()>
     ensures { OnOk result (Appends (W.contents printer.old) (W.contents printer.new) (number_text n)) }
 {
-    let mut text = [0u8; 24];
-    let len = lines::put_number(&mut text, 0, n);
-    printer.write_all(&text[..len])
+    let mut buffer = [0u8; 24];
+    let mut text = Text::new(&mut buffer);
+    lines::put_number(&mut text, n);
+    printer.write_all(text.as_bytes())
 }
 
-// All words of a slice.
-fn print_words<W: Write>(printer: &mut W, words: &[u64]) -> io::Result<()>
-    ensures { OnOk result (Appends (W.contents printer.old) (W.contents printer.new) (numbers_text words.now)) }
-{
-    for word in words {
-        print_number(printer, *word)?;
-    }
-    Ok(())
-}
-
-// The words of an answer of one word. A function for each length: an array's length is part of its type.
-pub fn print_1<W: Write>(printer: &mut W, words: [u64; 1]) -> io::Result<()>
-    ensures { OnOk result (Appends (W.contents printer.old) (W.contents printer.new) (numbers_text words)) }
-{
-    print_words(printer, &words)
-}
-
-// Of two words.
-pub fn print_2<W: Write>(printer: &mut W, words: [u64; 2]) -> io::Result<()>
-    ensures { OnOk result (Appends (W.contents printer.old) (W.contents printer.new) (numbers_text words)) }
-{
-    print_words(printer, &words)
-}
-
-// Of three words.
-pub fn print_3<W: Write>(printer: &mut W, words: [u64; 3]) -> io::Result<()>
-    ensures { OnOk result (Appends (W.contents printer.old) (W.contents printer.new) (numbers_text words)) }
-{
-    print_words(printer, &words)
-}
-
-// Of six words.
-pub fn print_6<W: Write>(printer: &mut W, words: [u64; 6]) -> io::Result<()>
-    ensures { OnOk result (Appends (W.contents printer.old) (W.contents printer.new) (numbers_text words)) }
-{
-    print_words(printer, &words)
-}
-
-// Of seven words: also a walker.
-pub fn print_7<W: Write>(printer: &mut W, words: [u64; 7]) -> io::Result<()>
-    ensures { OnOk result (Appends (W.contents printer.old) (W.contents printer.new) (numbers_text words)) }
-{
-    print_words(printer, &words)
-}
-
-// The nine words of a writer.
-pub fn print_9<W: Write>(printer: &mut W, words: [u64; 9]) -> io::Result<()>
-    ensures { OnOk result (Appends (W.contents printer.old) (W.contents printer.new) (numbers_text words)) }
-{
-    print_words(printer, &words)
-}
-
-// Of sixteen words.
-pub fn print_16<W: Write>(printer: &mut W, words: [u64; 16]) -> io::Result<()>
-    ensures { OnOk result (Appends (W.contents printer.old) (W.contents printer.new) (numbers_text words)) }
-{
-    print_words(printer, &words)
-}
-
-fn print_byte<W: Write>(printer: &mut W, byte: u8) -> io::Result<()>
-    ensures { OnOk result (Appends (W.contents printer.old) (W.contents printer.new) (number_text byte)) }
-{
-    print_number(printer, byte as u64)
-}
-
-// Every byte as a number: what a call left of lent bytes.
-pub fn print_bytes<W: Write>(printer: &mut W, bytes: &[u8]) -> io::Result<()>
-    ensures { OnOk result (Appends (W.contents printer.old) (W.contents printer.new) (numbers_text bytes.now)) }
-{
-    for byte in bytes {
-        print_byte(printer, *byte)?;
-    }
-    Ok(())
-}
-
-// A sample as the number of its 16 bits: 65,535 is -1.
-fn print_sample<W: Write>(printer: &mut W, sample: i16) -> io::Result<()>
-    ensures { OnOk result (Appends (W.contents printer.old) (W.contents printer.new) (number_text (sample_number sample))) }
-{
-    let bits = (sample as i32 + 65536) as u32 % 65536;
-    print_number(printer, bits as u64)
-}
-
-// Every sample as a number: what a call left of lent samples.
-pub fn print_samples<W: Write>(printer: &mut W, samples: &[i16]) -> io::Result<()>
+// Every item as a number: the words of an answer or a state, or what a call left of lent bytes or samples.
+pub fn print_numbers<W: Write, T: Printed>(printer: &mut W, items: &[T]) -> io::Result<()>
     ensures { OnOk result (Appends (W.contents printer.old) (W.contents printer.new)
-        (numbers_text (map sample_number samples.now))) }
+        (numbers_text (map T.number items.now))) }
 {
-    for sample in samples {
-        print_sample(printer, *sample)?;
+    for item in items {
+        print_number(printer, item.number())?;
     }
     Ok(())
 }
@@ -123,6 +76,59 @@ pub fn print_end<W: Write>(printer: &mut W) -> io::Result<()>
     ensures { OnOk result (Appends (W.contents printer.old) (W.contents printer.new) (10 ∷ [])) }
 {
     printer.write_all(b"\n")
+}
+
+// The line of a call that leaves nothing behind: its words, or its bytes.
+pub fn print_answer<W: Write, T: Printed>(
+    printer: &mut W,
+    name: &[u8],
+    number: u32,
+    items: &[T],
+) -> io::Result<()>
+    ensures { OnOk result (Appends (W.contents printer.old) (W.contents printer.new)
+        (name.now ++ (number_text number ++ (numbers_text (map T.number items.now) ++ 10 ∷ [])))) }
+{
+    print_call(printer, name, number)?;
+    print_numbers(printer, items)?;
+    print_end(printer)
+}
+
+// The line of a call that leaves one thing: its words, and then its state, or everything that it was lent.
+pub fn print_left<W: Write, T: Printed>(
+    printer: &mut W,
+    name: &[u8],
+    number: u32,
+    words: &[u64],
+    left: &[T],
+) -> io::Result<()>
+    ensures { OnOk result (Appends (W.contents printer.old) (W.contents printer.new)
+        (name.now ++ (number_text number ++ (numbers_text words.now
+        ++ (numbers_text (map T.number left.now) ++ 10 ∷ []))))) }
+{
+    print_call(printer, name, number)?;
+    print_numbers(printer, words)?;
+    print_numbers(printer, left)?;
+    print_end(printer)
+}
+
+// The line of a call with a state that writes: its words, the state after it, and every byte that it was lent.
+pub fn print_written<W: Write>(
+    printer: &mut W,
+    name: &[u8],
+    number: u32,
+    words: &[u64],
+    state: &[u64],
+    lent: &[u8],
+) -> io::Result<()>
+    ensures { OnOk result (Appends (W.contents printer.old) (W.contents printer.new)
+        (name.now ++ (number_text number ++ (numbers_text words.now
+        ++ (numbers_text state.now ++ (numbers_text lent.now ++ 10 ∷ [])))))) }
+{
+    print_call(printer, name, number)?;
+    print_numbers(printer, words)?;
+    print_numbers(printer, state)?;
+    print_numbers(printer, lent)?;
+    print_end(printer)
 }
 
 // How many cases of a function there were.

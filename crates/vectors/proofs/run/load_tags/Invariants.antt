@@ -1,10 +1,8 @@
--- The invariant of the loop of `vectors::run::load_tags`: the array has the first `i` tags at its front (`Loading`). The measure is the count less `i`.
-use Rattle.std.proofs.Common.{◌-◌}
-use Rattle.vectors.proofs.Tags.{Loading}
+-- The invariant of the loop of `vectors::run::load_tags`: the array has the first `i` tags at its front.
+use Rattle.std.proofs.Common.{◌≡◌}
+use Rattle.fields.specs.Le.{put}
+use Rattle.vectors.specs.Cases.{tags_in}
 use Rattle.vectors.proofs.run.load_tags.Given as goal
 
 abbrev pub invariant-loop-i : goal.invariant-loop-i
-invariant-loop-i l = Loading l.fn.to l.bytes l.count l.to l.i
-
-abbrev pub decreases-loop-i : goal.decreases-loop-i
-decreases-loop-i l = l.count - l.i
+invariant-loop-i l = l.to ≡ put l.fn.to 0 (tags_in l.bytes l.i)

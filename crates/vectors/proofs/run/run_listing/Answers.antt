@@ -7,6 +7,6 @@ use Rattle.vectors.proofs.run.run_listing.Goals as goal
 pub slice_bounds-lines-end : goal.slice_bounds-lines-end
 slice_bounds-lines-end g c = ends_within c.list-end.ensures
 
-pub slice_bounds-print_bytes-end : goal.slice_bounds-print_bytes-end
-slice_bounds-print_bytes-end g c =
+pub slice_bounds-print_answer-end : goal.slice_bounds-print_answer-end
+slice_bounds-print_answer-end g c =
     sym (length-take-le c.list-end.result c.list-end.new.lines (ends_within c.list-end.ensures))
