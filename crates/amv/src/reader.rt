@@ -37,7 +37,12 @@ impl<'a> AmvDemuxer<'a> {
 
     // Goes to the first chunk of a stream whose stamp is the request or later, by the records of a chunk index, and gives the stamp there. Refuses
     // another stream (42), a table that is not whole records (41), a bad record (43) and counts that are too large (32), and stays where it was.
-    pub fn seek_to_via_index(&mut self, table: &[u8], stream: u32, request: i64) -> Result<u64, AmvError>
+    pub fn seek_to_via_index(
+        &mut self,
+        table: &[u8],
+        stream: u32,
+        request: i64,
+    ) -> Result<u64, AmvError>
         ensures { Seeks self.old table.now stream request result self.new }
     {
         let sought = seek::seek_to_via_index(self.walker, table, stream, request);

@@ -32,7 +32,12 @@ impl AmvMuxer {
 
     // Writes a packet after what is written: stream 0 is a picture, 1 is sound. Refuses a writer that has not begun (51), has ended (55) or whose
     // count is below the prelude (56), a payload over 32 bits (52), another stream (53), and a packet that the buffer or a file cannot hold (54).
-    pub fn write_packet(&mut self, buf: &mut [u8], payload: &[u8], stream: u32) -> Result<(), AmvError>
+    pub fn write_packet(
+        &mut self,
+        buf: &mut [u8],
+        payload: &[u8],
+        stream: u32,
+    ) -> Result<(), AmvError>
         ensures { MuxerWrites (packet_call self.old.writer payload.now stream buf.old)
             result self.new buf.new }
     {

@@ -12,7 +12,9 @@ ghost use Rattle.listing.specs.Steps.{room};
 
 use demuxer::position::Position;
 use finished::check;
-use lines::{ChunkLine, TotalsLine, put_chunk_line, put_long_line, put_refusal_line, put_totals_line};
+use lines::{
+    ChunkLine, TotalsLine, put_chunk_line, put_long_line, put_refusal_line, put_totals_line,
+};
 use text::Text;
 use walk::{Step, step_at};
 

@@ -15,4 +15,3 @@ most_samples most (e ∷ es) = most_samples (max most e.position.samples.0) es
 -- one pass over records, from an offset and a number of samples on: the question 43 of each, and the most samples
 abbrev pub pass_over : ℕ → ℕ → List ChunkIndexEntry → Answer ℕ
 pass_over place most es = and_then (ask_each good_entry 43 place es) (λ _. accepted (most_samples most es))
-
