@@ -124,21 +124,14 @@ pub fn command_in(block: &[u8]) -> Result<Command, AmvError>
     if block.len() != Registers::LEN {
         return Err(AmvError::WrongRegisterBlock);
     }
-    let command = block[Registers::COMMAND];
-    if Registers::SEEK_SOUND < command {
-        return Err(AmvError::UnknownCommand);
-    }
-    if command == Registers::NONE {
-        return Ok(Command::None);
-    }
-    if command == Registers::READ {
-        return Ok(Command::Read);
-    }
     let request = fields::read_le::<u64>(block, Registers::REQUEST);
-    if command == Registers::SEEK_PICTURE {
-        return Ok(Command::Seek(0, request));
+    match block[Registers::COMMAND] {
+        Registers::NONE => Ok(Command::None),
+        Registers::READ => Ok(Command::Read),
+        Registers::SEEK_PICTURE => Ok(Command::Seek(0, request)),
+        Registers::SEEK_SOUND => Ok(Command::Seek(1, request)),
+        _ => Err(AmvError::UnknownCommand),
     }
-    Ok(Command::Seek(1, request))
 }
 
 // What a read has done.
