@@ -1,18 +1,12 @@
--- What a call's row says, and the six stores that put it. Assumes nothing.
+-- What a call's row says. Assumes nothing.
 use mathlib.Core.Path.{◌≡◌, refl, sym, ap, ◌∙◌}
-use Rattle.error.specs.Refusal.{said}
-use Rattle.std.proofs.Common.{Result, Ok, Err}
-use Rattle.std.proofs.Common.{Option, Some, None}
-use Rattle.error.specs.declared.AmvError.{AmvError}
-use Prim.Native.Nat.{ℕ, ◌+◌, ◌≤◌}
-use mathlib.Core.List.{List, [], ◌∷◌}
-use native.Mathlib.Omega.{arith}
-use borrow.Author.Tests.{eq-eqb, ne_eqb}
+use Prim.Native.Nat.{ℕ}
+use mathlib.Core.List.{List}
 use lib.IntN.{ℤ}
-use lib.ListN.{length, set}
+use Rattle.std.proofs.Common.{Result, Ok, Err, Option, Some, None}
 use Rattle.error.specs.Answer.{Answer, accepted, refused}
-use Rattle.fields.specs.Le.{put}
-use Rattle.fields.proofs.Laws.{sets, stores_put}
+use Rattle.error.specs.Refusal.{said}
+use Rattle.error.specs.declared.AmvError.{AmvError}
 use Rattle.demuxer.specs.Packet.{shown_of}
 use Rattle.demuxer.specs.Read.{packet, said_next, said_read, Placed, read_of}
 use Rattle.demuxer.proofs.Bodies.{length-payload}
@@ -21,8 +15,8 @@ use Rattle.demuxer.specs.declared.walker.Read.{Read}
 use Rattle.demuxer.specs.declared.packet.Packet.{Packet}
 use Rattle.seek.specs.Seek.{said_seek_outcome, seek_of}
 use Rattle.seek.specs.declared.SeekOutcome.{SeekOutcome}
-use Rattle.recording.specs.Machine.{read_answer, seek_answer, call}
-use Rattle.replay.specs.Replay.{call_of, row_words, row_answer, packet_row, read_row, sought_row}
+use Rattle.recording.specs.Machine.{read, seek, read_answer, seek_answer, call}
+use Rattle.replay.specs.Replay.{row_answer, packet_row, read_row, sought_row}
 use Rattle.replay.specs.Steps.{next_row, Answered}
 use Rattle.replay.specs.declared.Row.{Row}
 
@@ -55,31 +49,23 @@ seek-said file (refused r) = refl
 
 -- ---- one call
 
-module _ (file table : List ℕ) (w : Walker) (kind stream : ℕ) (request : ℤ) (row : Row) where
-  pub read_called : (r : Read) → kind ≡ 0 → said_read file r ≡ read_of file w → Placed file w r.answer → row ≡ next_row r.answer
-      → Answered file table w (call_of kind stream request) (record { row = row; walker = r.walker })
+module _ (file table : List ℕ) (w : Walker) where
+  pub read_called : (r : Read) {row : Row} → said_read file r ≡ read_of file w → Placed file w r.answer → row ≡ next_row r.answer
+      → Answered file table w read (row, r.walker)
   unfolding call
-  read_called r k e placed is =
-      rw (eq-eqb _ _ k) (record {
+  read_called r e placed is =
+      record {
         row_is = is ∙ next_row_lem file w r.answer placed ∙ ap (λ q. read_row w q.answer) e;
         said_is = ap (row_answer file) is ∙ read-said file r.answer ∙ ap (λ q. read_answer q.answer) e;
         walker_is = ap (λ q. q.walker) e;
-      })
+      }
 
-  pub seek_called : (r : SeekOutcome) → (kind ≡ 0 → ⊥) → said_seek_outcome r ≡ seek_of table w stream request → row ≡ sought_row (said r.result)
-      → Answered file table w (call_of kind stream request) (record { row = row; walker = r.walker })
+  pub seek_called : (stream : ℕ) (request : ℤ) (r : SeekOutcome) {row : Row} → said_seek_outcome r ≡ seek_of table w stream request
+      → row ≡ sought_row (said r.result) → Answered file table w (seek stream request) (row, r.walker)
   unfolding call
-  seek_called r k e is =
-      rw (ne_eqb _ _ k) (record {
+  seek_called stream request r e is =
+      record {
         row_is = is ∙ ap (λ q. sought_row q.answer) e;
         said_is = ap (row_answer file) is ∙ seek-said file (said r.result) ∙ ap (λ q. seek_answer q.answer) e;
         walker_is = ap (λ q. q.walker) e;
-      })
-
--- ---- a row in a slice
-
-pub row_put : (xs : List ℕ) (at : ℕ) (r : Row) → at + 6 ≤ length xs
-    → set (set (set (set (set (set xs at r.said) (at + 1) r.first) (at + 2) r.second) (at + 3) r.third) (at + 4) r.fourth) (at + 5) r.fifth
-    ≡ put xs at (row_words r)
-unfolding sets
-row_put xs at r h = stores_put xs at r.said (r.first ∷ r.second ∷ r.third ∷ r.fourth ∷ r.fifth ∷ []) (omega arith)
+      }

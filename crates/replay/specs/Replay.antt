@@ -1,7 +1,6 @@
 -- A list of reads and seeks as numbers, its answers as numbers, and the claim about them. Assumes nothing.
 use Rattle.std.specs.Prelude.{◌≡◌, ℕ, ◌+◌, ◌*◌, ◌≤◌, ◌<◌, Bool, true, false, cond, List, [], ◌∷◌, eqb, ℤ, pos, length, get_or}
-use Rattle.error.specs.Refusal.{said}
-use Rattle.std.specs.Prelude.{Option, Some, None}
+use Rattle.std.specs.Prelude.{Option, Some, None, Result, Ok, Err}
 use Rattle.error.specs.Answer.{Answer, accepted, refused, numbered}
 use Rattle.fields.specs.Le.{put}
 use Rattle.demuxer.specs.Packet.{shown_of}
@@ -11,9 +10,9 @@ use Rattle.demuxer.specs.declared.walker.Walker.{Walker}
 use Rattle.recording.specs.Machine.{Call, read, seek, CallAnswer, read_answer, seek_answer, call, answers, after, OwnIndex}
 use Rattle.recording.specs.Indexed.{FileAgreed}
 use Rattle.rows.specs.Rows.{one_length, calls_from, CallStep, rows_of, numbers, rows_in}
+use Rattle.rows.specs.declared.RowsError.{RowsError}
+use Rattle.rows.specs.declared.RowsError.TheVariants.{Unequal, NoRoom}
 use Rattle.replay.specs.declared.Row.{Row}
-use Rattle.replay.specs.declared.CallsResult.{CallsResult}
-use Rattle.replay.specs.declared.CallsResult.TheVariants.{Done, Unequal, NoRoom}
 
 -- a call as numbers: its kind, 0 for a read, and for a seek its stream and request
 abbrev pub call_of : ℕ → ℕ → ℤ → Call
@@ -94,17 +93,16 @@ abbrev pub equal : List ℕ → List ℕ → List ℤ → Bool
 equal kinds streams requests = one_length (length kinds) (length streams ∷ length requests ∷ [])
 
 -- all calls are run, or none: slices of unequal length and rows without room leave every number as it was
-abbrev pub Replayed : List ℕ → List ℕ → List ℕ → List ℕ → List ℤ → List ℕ → CallsResult → List ℕ → Type 0
-Replayed file table kinds streams requests rows (Done w) left =
+abbrev pub Replayed : List ℕ → List ℕ → List ℕ → List ℕ → List ℤ → List ℕ → Result Walker RowsError → List ℕ → Type 0
+Replayed file table kinds streams requests rows (Ok w) left =
     (equal kinds streams requests ≡ true) × Run file table (calls_of kinds streams requests) (length kinds) rows w left
-Replayed file table kinds streams requests rows Unequal left = (equal kinds streams requests ≡ false) × (left ≡ rows)
-Replayed file table kinds streams requests rows NoRoom left =
+Replayed file table kinds streams requests rows (Err Unequal) left = (equal kinds streams requests ≡ false) × (left ≡ rows)
+Replayed file table kinds streams requests rows (Err NoRoom) left =
     (equal kinds streams requests ≡ true) × ((length rows < length kinds * 6) × (left ≡ rows))
 
 -- what is claimed of reads and seeks, of what the function returns on every file whose index is accepted, and its own index; of a finished recording
 -- that is demand 3 (recording/specs/Indexed: `IndexedFiles`, field `finished`)
-abbrev pub Compared : List ℕ → List ℕ → List ℕ → List ℕ → List ℤ → CallsResult → List ℕ → Type 0
-Compared file table kinds streams requests (Done w) left =
+abbrev pub Compared : List ℕ → List ℕ → List ℕ → List ℕ → List ℤ → Result Walker RowsError → List ℕ → Type 0
+Compared file table kinds streams requests (Ok w) left =
     OwnIndex file table → FileAgreed file (calls_of kinds streams requests) w (answers_in file left (length kinds))
-Compared file table kinds streams requests Unequal left = Unit
-Compared file table kinds streams requests NoRoom left = Unit
+Compared file table kinds streams requests (Err e) left = Unit

@@ -1,21 +1,23 @@
 // A whole list of reads and seeks, run from a fresh walker.
 #![tactic(auto)]
 
-ghost use Rattle.std.specs.Prelude.{◌≡◌, ◌+◌, ◌≤◌, length};
-ghost use Rattle.error.specs.Refusal.{said};
-ghost use Rattle.fields.specs.Le.{put};
+ghost use Rattle.std.specs.Prelude.{◌≡◌};
+ghost use Rattle.error.specs.Refusal.{refusal_of, said};
 ghost use Rattle.replay.specs.Replay.{row_words, refusal_row, packet_row, sought_row, call_of, Replayed, Compared};
-ghost use Rattle.replay.specs.Steps.{next_row, Answered};
+ghost use Rattle.replay.specs.Steps.{next_row, called, Answered};
 
 use demuxer::packet::Packet;
 use demuxer::walker::Walker;
+use error::AmvError;
+use rows::{RowsError, all_or_none, put_row};
 use seek::seek_to_via_index;
 
 // An answer as six numbers. A packet's values: stream, start and length of its payload in the file, stamp, and duration or 0. A refusal's:
 // number and place. A seek's: the stamp. Every other value is 0.
-#[derive(Clone, Copy)]
+#[derive(Clone, Copy, Debug, Default, PartialEq, Eq)]
 pub struct Row {
-    // What the answer is: one of the constants below.
+    // What the answer is: one of the constants below. A number, as the five beside it: it goes into a lent slice of numbers, and the claims read any
+    // number back (`row_answer`).
     pub said: u64,
     pub first: u64,
     pub second: u64,
@@ -46,127 +48,121 @@ impl Row {
     // A seek that was refused.
     pub const SEEK_REFUSED: u64 = 5;
 
-    fn put(self, rows: &mut [u64], at: usize)
-        requires { at + 6 ≤ length rows.old }
-        ensures { rows.new ≡ put rows.old at (row_words self) }
+    // The row of a refused call.
+    fn refusal(said: u64, error: AmvError) -> Row
+        ensures { result ≡ refusal_row said (refusal_of error).number (refusal_of error).place }
     {
-        rows[at] = self.said;
-        rows[at + 1] = self.first;
-        rows[at + 2] = self.second;
-        rows[at + 3] = self.third;
-        rows[at + 4] = self.fourth;
-        rows[at + 5] = self.fifth;
+        Row {
+            said,
+            first: u64::from(error.number()),
+            second: error.place(),
+            ..Row::default()
+        }
+    }
+
+    // The row of a packet, with its duration if it has one.
+    fn packet(packet: Packet) -> Row
+        ensures { result ≡ packet_row packet.stream packet.start packet.len packet.stamp packet.duration }
+    {
+        let (said, ticks) = match packet.duration {
+            Some(ticks) => (Row::PACKET, ticks),
+            None => (Row::PACKET_NO_DURATION, 0),
+        };
+        Row {
+            said,
+            first: u64::from(packet.stream),
+            second: packet.start as u64,
+            third: packet.len as u64,
+            fourth: packet.stamp,
+            fifth: ticks,
+        }
+    }
+
+    // The row of a read's answer.
+    fn read(answer: Result<Option<Packet>, AmvError>) -> Row
+        ensures { result ≡ next_row answer }
+    {
+        match answer {
+            Ok(Some(packet)) => Row::packet(packet),
+            Ok(None) => Row {
+                said: Row::END,
+                ..Row::default()
+            },
+            Err(error) => Row::refusal(Row::READ_REFUSED, error),
+        }
+    }
+
+    // The row of a seek's answer.
+    fn seek(answer: Result<u64, AmvError>) -> Row
+        ensures { result ≡ sought_row (said answer) }
+    {
+        match answer {
+            Ok(stamp) => Row {
+                said: Row::STAMP,
+                first: stamp,
+                ..Row::default()
+            },
+            Err(error) => Row::refusal(Row::SEEK_REFUSED, error),
+        }
+    }
+
+    // The six numbers in their order.
+    fn words(self) -> [u64; 6]
+        ensures { result ≡ row_words self }
+    {
+        [
+            self.said,
+            self.first,
+            self.second,
+            self.third,
+            self.fourth,
+            self.fifth,
+        ]
     }
 }
 
 // The kind of call that is a read; every other is a seek.
 pub const READ: u8 = 0;
 
-// What a list of calls gives: all of them are run, or none.
-#[derive(Clone, Copy)]
-pub enum CallsResult {
-    // All calls are run; the walker that the last one left.
-    Done(Walker),
-    // The calls' slices are not of one length.
-    Unequal,
-    // The rows have no room for the answers.
-    NoRoom,
+// A call.
+#[derive(Clone, Copy, Debug, PartialEq, Eq)]
+enum Call {
+    Read,
+    Seek { stream: u32, request: i64 },
 }
 
-// A call's answer as a row, and the walker that the next call gets.
-#[derive(Clone, Copy)]
-struct CallResult {
-    row: Row,
-    walker: Walker,
-}
+impl Call {
+    // A call as the slices tell it. The kind is a number, and none is refused: the claims speak of every slice of them (`Replayed`).
+    fn of(kind: u8, stream: u32, request: i64) -> Call
+        ensures { called result ≡ call_of kind stream request }
+    {
+        if kind == READ {
+            Call::Read
+        } else {
+            Call::Seek { stream, request }
+        }
+    }
 
-fn refusal_row(said: u64, number: u32, place: u64) -> Row
-    ensures { result ≡ refusal_row said number place }
-{
-    Row {
-        said,
-        first: number as u64,
-        second: place,
-        third: 0,
-        fourth: 0,
-        fifth: 0,
+    // Its answer as a row, and the walker that the next call gets.
+    fn run(self, walker: Walker, file: &[u8], table: &[u8]) -> (Row, Walker)
+        ensures { Answered file.now table.now walker (called self) result }
+    {
+        match self {
+            Call::Read => {
+                let read = walker.next_packet(file);
+                (Row::read(read.answer), read.walker)
+            }
+            Call::Seek { stream, request } => {
+                let sought = seek_to_via_index(walker, table, stream, request);
+                (Row::seek(sought.result), sought.walker)
+            }
+        }
     }
 }
 
-fn packet_row(packet: Packet) -> Row
-    ensures { result ≡ packet_row packet.stream packet.start packet.len packet.stamp packet.duration }
-{
-    let mut row = Row {
-        said: Row::PACKET_NO_DURATION,
-        first: packet.stream as u64,
-        second: packet.start as u64,
-        third: packet.len as u64,
-        fourth: packet.stamp,
-        fifth: 0,
-    };
-    let duration = packet.duration;
-    if let Some(ticks) = duration {
-        row.said = Row::PACKET;
-        row.fifth = ticks;
-    }
-    row
-}
-
-fn read_row(answer: Result<Option<Packet>, AmvError>) -> Row
-    ensures { result ≡ next_row answer }
-{
-    match answer {
-        Ok(Some(packet)) => packet_row(packet),
-        Ok(None) => refusal_row(Row::END, 0, 0),
-        Err(error) => refusal_row(Row::READ_REFUSED, error.number(), error.place()),
-    }
-}
-
-fn seek_row(res: Result<u64, AmvError>) -> Row
-    ensures { result ≡ sought_row (said res) }
-{
-    match res {
-        Ok(stamp) => Row {
-            said: Row::STAMP,
-            first: stamp,
-            second: 0,
-            third: 0,
-            fourth: 0,
-            fifth: 0,
-        },
-        Err(error) => refusal_row(Row::SEEK_REFUSED, error.number(), error.place()),
-    }
-}
-
-fn run_call(
-    file: &[u8],
-    table: &[u8],
-    walker: Walker,
-    kind: u8,
-    stream: u32,
-    request: i64,
-) -> CallResult
-    ensures { Answered file.now table.now walker (call_of kind stream request) result }
-{
-    if kind == READ {
-        let read = walker.next_packet(file);
-        let answer = read.answer;
-        let next = read.walker;
-        return CallResult {
-            row: read_row(answer),
-            walker: next,
-        };
-    }
-    let sought = seek_to_via_index(walker, table, stream, request);
-    let result = sought.result;
-    let next = sought.walker;
-    CallResult {
-        row: seek_row(result),
-        walker: next,
-    }
-}
-
-// Runs calls from a fresh walker over a file and its index: call i is kinds[i] with streams[i] and requests[i], its answer is row i.
+// Runs calls from a fresh walker over a file and its index: call i is kinds[i] with streams[i] and requests[i], its answer is row i. The three
+// slices stay apart, of any lengths, and the kinds stay numbers: what is answered of unequal slices is promised (`Replayed`, of Unequal).
+// Refused, with every number as it was: slices of unequal length with Unequal, rows without room for all answers with NoRoom.
 pub fn run_calls(
     file: &[u8],
     table: &[u8],
@@ -174,33 +170,24 @@ pub fn run_calls(
     streams: &[u32],
     requests: &[i64],
     rows: &mut [u64],
-) -> CallsResult
+) -> Result<Walker, RowsError>
     ensures replayed { Replayed file.now table.now kinds.now streams.now requests.now
         rows.old result rows.new }
     ensures compared { Compared file.now table.now kinds.now streams.now requests.now
         result rows.new }
 {
     let count = kinds.len();
-    if streams.len() != count {
-        return CallsResult::Unequal;
-    }
-    if requests.len() != count {
-        return CallsResult::Unequal;
-    }
-    if rows.len() / Row::LEN < count {
-        return CallsResult::NoRoom;
-    }
+    all_or_none(
+        count,
+        &[streams.len(), requests.len()],
+        rows.len() / Row::LEN,
+    )?;
     let mut walker = Walker::new();
-    let mut i: usize = 0;
-    let mut at: usize = 0;
-    while i < count {
-        let called = run_call(file, table, walker, kinds[i], streams[i], requests[i]);
-        let row = called.row;
-        row.put(rows, at);
-        let next = called.walker;
+    for i in 0..count {
+        let call = Call::of(kinds[i], streams[i], requests[i]);
+        let (row, next) = call.run(walker, file, table);
+        put_row(rows, i, &row.words());
         walker = next;
-        i += 1;
-        at += Row::LEN;
     }
-    CallsResult::Done(walker)
+    Ok(walker)
 }

@@ -1,6 +1,5 @@
 -- What the verdicts say: which calls were accepted, by their numbers, and so what 01 claims of the file. Assumes nothing.
 use mathlib.Core.Path.{◌≡◌, refl, ap, ◌∙◌}
-use Rattle.error.specs.Refusal.{said}
 use Prim.Native.Nat.{ℕ}
 use mathlib.Core.Bool.{cond}
 use mathlib.Core.List.{List, [], ◌∷◌}

@@ -1,6 +1,6 @@
 -- A list of writing calls as numbers, its verdicts as numbers, and the claim about them. Assumes nothing.
 use Rattle.std.specs.Prelude.{◌≡◌, ℕ, ◌*◌, ◌≤◌, ◌<◌, Bool, true, false, cond, List, [], ◌∷◌, eqb, length, get_or, take}
-use Rattle.std.specs.Prelude.{Option, Some, None}
+use Rattle.std.specs.Prelude.{None, Result, Ok, Err}
 use Rattle.error.specs.Answer.{Answer, number_of, place_of}
 use Rattle.fields.specs.Le.{put}
 use Rattle.demuxer.specs.Packet.{payload_of}
@@ -9,8 +9,8 @@ use Rattle.muxer.specs.declared.Settings.{Settings}
 use Rattle.muxer.specs.declared.Writer.{Writer}
 use Rattle.recording.specs.WriteLists.{WriteCall, header, packet, trailer, write_step, writer_after, buffer_after, WritesAgreed}
 use Rattle.rows.specs.Rows.{one_length, calls_from, CallStep, rows_of, numbers, rows_in}
-use Rattle.replay_writes.specs.declared.WritesResult.{WritesResult}
-use Rattle.replay_writes.specs.declared.WritesResult.TheVariants.{Done, Unequal, NoRoom}
+use Rattle.rows.specs.declared.RowsError.{RowsError}
+use Rattle.rows.specs.declared.RowsError.TheVariants.{Unequal, NoRoom}
 
 -- a list of calls as numbers
 pub record Lists : Type 0 where
@@ -68,10 +68,10 @@ abbrev pub equal : Lists → Bool
 equal l = one_length (length l.kinds) (length l.streams ∷ length l.starts ∷ length l.lens ∷ [])
 
 -- all calls are run, or none: slices of unequal length and verdicts without room leave every byte and number as it was
-abbrev pub Replayed : Lists → Settings → List ℕ → List ℕ → WritesResult → List ℕ → List ℕ → Type 0
-Replayed l s buf verdicts (Done w) after left = (equal l ≡ true) × Run s buf verdicts (calls_of l) (length l.kinds) w after left
-Replayed l s buf verdicts Unequal after left = (equal l ≡ false) × ((after ≡ buf) × (left ≡ verdicts))
-Replayed l s buf verdicts NoRoom after left =
+abbrev pub Replayed : Lists → Settings → List ℕ → List ℕ → Result Writer RowsError → List ℕ → List ℕ → Type 0
+Replayed l s buf verdicts (Ok w) after left = (equal l ≡ true) × Run s buf verdicts (calls_of l) (length l.kinds) w after left
+Replayed l s buf verdicts (Err Unequal) after left = (equal l ≡ false) × ((after ≡ buf) × (left ≡ verdicts))
+Replayed l s buf verdicts (Err NoRoom) after left =
     (equal l ≡ true) × ((length verdicts < length l.kinds * 2) × ((after ≡ buf) × (left ≡ verdicts)))
 
 -- the calls that the verdicts say were accepted
@@ -84,7 +84,6 @@ abbrev pub accepted_in : List ℕ → ℕ → List WriteCall → List WriteCall
 accepted_in left n calls = accepted_by (rows_in 2 n left) calls
 
 -- demand 3 for the writer, of what the function returns: the file is "the first bytes-written bytes" of the buffer
-abbrev pub Kept : Lists → Settings → WritesResult → List ℕ → List ℕ → Type 0
-Kept l s (Done w) after left = WritesAgreed s (take w.written after) (accepted_in left (length l.kinds) (calls_of l))
-Kept l s Unequal after left = Unit
-Kept l s NoRoom after left = Unit
+abbrev pub Kept : Lists → Settings → Result Writer RowsError → List ℕ → List ℕ → Type 0
+Kept l s (Ok w) after left = WritesAgreed s (take w.written after) (accepted_in left (length l.kinds) (calls_of l))
+Kept l s (Err e) after left = Unit

@@ -1,15 +1,17 @@
 // A whole list of writing calls, run from a fresh state.
 #![tactic(auto)]
 
-ghost use Rattle.std.specs.Prelude.{◌≡◌, ◌+◌, ◌≤◌, length};
+ghost use Rattle.std.specs.Prelude.{◌≡◌};
 ghost use Rattle.error.specs.Refusal.{said};
-ghost use Rattle.fields.specs.Le.{put};
 ghost use Rattle.muxer.specs.Writer.{MeetsOutcome};
 ghost use Rattle.recording.specs.WriteLists.{write_step};
 ghost use Rattle.replay_writes.specs.Replay.{lists, payload_in, call_of, verdict, Replayed, Kept};
+ghost use Rattle.replay_writes.specs.Steps.{called};
 
 use demuxer::packet::{Packet, payload};
+use error::AmvError;
 use muxer::{Settings, Writer, Wrote};
+use rows::{RowsError, all_or_none, put_row};
 
 // The kind of call that writes a header. Every kind but these two writes a trailer.
 pub const HEADER: u8 = 0;
@@ -20,15 +22,37 @@ pub const PACKET: u8 = 1;
 // The numbers of a verdict: the refusal's number, 0 where the call was accepted, and its place.
 pub const VERDICT_LEN: usize = 2;
 
-// What a list of writing calls gives: all of them are run, or none.
-#[derive(Clone, Copy)]
-pub enum WritesResult {
-    // All calls are run; the writer that the last one left.
-    Done(Writer),
-    // The calls' slices are not of one length.
-    Unequal,
-    // The verdicts have no room.
-    NoRoom,
+// A call.
+#[derive(Clone, Copy, Debug, PartialEq, Eq)]
+enum WriteCall<'a> {
+    Header,
+    Packet { payload: &'a [u8], stream: u32 },
+    Trailer,
+}
+
+impl<'a> WriteCall<'a> {
+    // A call as the slices tell it. The kind is a number, and none is refused: the claims speak of every slice of them (`Replayed`).
+    fn of(kind: u8, stream: u32, payload: &'a [u8]) -> WriteCall<'a>
+        ensures { called result ≡ call_of kind stream payload.now }
+    {
+        match kind {
+            HEADER => WriteCall::Header,
+            PACKET => WriteCall::Packet { payload, stream },
+            _ => WriteCall::Trailer,
+        }
+    }
+
+    // Its answer, and the writer that the next call gets.
+    #[tactic(auto, unfolding(recording::specs::WriteLists::write_step))]
+    fn run(self, writer: Writer, buf: &mut [u8]) -> Wrote
+        ensures { MeetsOutcome (write_step writer buf.old (called self.entry)) result buf.new }
+    {
+        match self {
+            WriteCall::Header => writer.write_header(buf),
+            WriteCall::Packet { payload, stream } => writer.write_packet(buf, payload, stream),
+            WriteCall::Trailer => writer.write_trailer(buf),
+        }
+    }
 }
 
 // The part of the payloads that a call names; none of it where they do not reach so far.
@@ -45,37 +69,17 @@ fn payload_in(payloads: &[u8], start: u64, len: u64) -> &[u8]
     payload(payloads, packet)
 }
 
-fn run_write(
-    writer: Writer,
-    buf: &mut [u8],
-    kind: u8,
-    stream: u32,
-    payloads: &[u8],
-    start: u64,
-    len: u64,
-) -> Wrote
-    ensures { MeetsOutcome (write_step writer buf.old (call_of kind stream (payload_in payloads.now start len)))
-        result buf.new }
+// A call's answer as two numbers.
+fn verdict(answer: Result<(), AmvError>) -> [u64; 2]
+    ensures { result ≡ verdict (said answer) }
 {
-    if kind == HEADER {
-        return writer.write_header(buf);
-    }
-    if kind == PACKET {
-        return writer.write_packet(buf, payload_in(payloads, start, len), stream);
-    }
-    writer.write_trailer(buf)
-}
-
-fn put_verdict(verdicts: &mut [u64], at: usize, res: Result<(), AmvError>)
-    requires { at + 2 ≤ length verdicts.old }
-    ensures { verdicts.new ≡ put verdicts.old at (verdict (said res)) }
-{
-    verdicts[at] = res.number() as u64;
-    verdicts[at + 1] = res.place();
+    [u64::from(error::number_of(answer)), error::place_of(answer)]
 }
 
 // Runs calls from a fresh writer of these settings: call i is kinds[i], for a packet with streams[i] and the payload of length lens[i] at
-// starts[i] of the payloads; its answer is verdict i.
+// starts[i] of the payloads; its answer is verdict i. The four slices stay apart, of any lengths, and the kinds stay numbers: what is answered of
+// unequal slices is promised (`Replayed`, of Unequal). Refused, with every byte and number as it was: slices of unequal length with Unequal,
+// verdicts without room for all answers with NoRoom.
 pub fn run_writes(
     settings: Settings,
     buf: &mut [u8],
@@ -85,38 +89,28 @@ pub fn run_writes(
     lens: &[u64],
     payloads: &[u8],
     verdicts: &mut [u64],
-) -> WritesResult
+) -> Result<Writer, RowsError>
     ensures replayed { Replayed (lists kinds.now streams.now starts.now lens.now payloads.now)
         settings buf.old verdicts.old result buf.new verdicts.new }
     ensures kept { Kept (lists kinds.now streams.now starts.now lens.now payloads.now)
         settings result buf.new verdicts.new }
 {
     let count = kinds.len();
-    if streams.len() != count {
-        return WritesResult::Unequal;
-    }
-    if starts.len() != count {
-        return WritesResult::Unequal;
-    }
-    if lens.len() != count {
-        return WritesResult::Unequal;
-    }
-    if verdicts.len() / VERDICT_LEN < count {
-        return WritesResult::NoRoom;
-    }
+    all_or_none(
+        count,
+        &[streams.len(), starts.len(), lens.len()],
+        verdicts.len() / VERDICT_LEN,
+    )?;
     let mut writer = Writer::new(settings);
-    let mut i: usize = 0;
-    let mut at: usize = 0;
-    while i < count {
-        let wrote = run_write(
-            writer, buf, kinds[i], streams[i], payloads, starts[i], lens[i],
+    for i in 0..count {
+        let call = WriteCall::of(
+            kinds[i],
+            streams[i],
+            payload_in(payloads, starts[i], lens[i]),
         );
-        let result = wrote.result;
-        put_verdict(verdicts, at, result);
-        let next = wrote.writer;
-        writer = next;
-        i += 1;
-        at += VERDICT_LEN;
+        let wrote = call.run(writer, buf);
+        put_row(verdicts, i, &verdict(wrote.result));
+        writer = wrote.writer;
     }
-    WritesResult::Done(writer)
+    Ok(writer)
 }

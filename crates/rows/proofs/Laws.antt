@@ -1,81 +1,68 @@
 -- A run of calls that puts a row for each, before one of them; and that the rows are read back. Assumes nothing.
 use mathlib.Core.Path.{◌≡◌, refl, sym, ap, ◌∙◌}
 use Prim.Native.Nat.{ℕ, zero, suc, ◌+◌, ◌-◌, ◌*◌, ◌≤◌, ◌<◌}
-use native.Mathlib.Nat.{suc-mul}
-use mathlib.Core.Bool.{false, and-false}
+use native.Mathlib.Nat.{zero-mul, suc-mul, mul-le-mul_right}
 use mathlib.Core.List.{List, [], ◌∷◌, ◌++◌, append_assoc}
 use native.Mathlib.Omega.{arith}
-use borrow.Author.Tests.{ne_eqb}
-use lib.Dec.{eqb}
 use lib.ListN.{length}
 use lib.Seq.{take_at, drop_at}
 use Rattle.fields.specs.Le.{put}
 use Rattle.fields.proofs.Laws.{length-put, put-put, put-nothing}
-use Rattle.rows.specs.Rows.{one_length, calls_from, CallStep, rows_of, state_after, numbers, rows_in}
+use Rattle.rows.specs.Rows.{calls_from, CallStep, rows_of, state_after, numbers, rows_in}
 
--- one length that differs, wherever it stands
-pub unequal : (n : ℕ) (before : List ℕ) (m : ℕ) (more : List ℕ) → (m ≡ n → ⊥) → one_length n (before ++ (m ∷ more)) ≡ false
-unequal n [] m more h = rw (ne_eqb m n h) refl
-unequal n (l ∷ before) m more h = rw (unequal n before m more h) (and-false (eqb l n))
+-- ---- the run
 
 length-calls : {C : Type 0} (call : ℕ → C) (at n : ℕ) → length (calls_from call at n) ≡ n
 unfolding calls_from
 length-calls call at zero = refl
 length-calls call at (suc n) = ap suc (length-calls call (at + 1) n)
 
--- ---- the run
-
--- before call i of n, whose row goes to `at`: the calls left give the rest
+-- before call i of n: the calls left give the rest
 pub record Going {S C : Type 0} (m : CallStep S C) (width : ℕ) (call : ℕ → C) (n : ℕ) (s₀ : S) (before : List ℕ) (s : S) (rows : List ℕ)
-    (i at : ℕ) : Type 0 where
+    (i : ℕ) : Type 0 where
   pub room : n * width ≤ length before
-  pub held : length before < 18446744073709551616
   pub same : length rows ≡ length before
-  pub room-left : at + (n - i) * width ≤ length rows
   pub state-is : state_after m s (calls_from call i (n - i)) ≡ state_after m s₀ (calls_from call 0 n)
-  pub rows_are : put rows at (numbers (rows_of m s (calls_from call i (n - i)))) ≡ put before 0 (numbers (rows_of m s₀ (calls_from call 0 n)))
+  pub rows_are : put rows (i * width) (numbers (rows_of m s (calls_from call i (n - i)))) ≡ put before 0 (numbers (rows_of m s₀ (calls_from call 0 n)))
 
 module _ {S C : Type 0} (m : CallStep S C) (width : ℕ) (call : ℕ → C) (n : ℕ) (s₀ : S) (before : List ℕ) where
-  pub going-first : n * width ≤ length before → length before < 18446744073709551616 → Going m width call n s₀ before s₀ before 0 0
-  going-first h f =
+  pub going-first : n * width ≤ length before → Going m width call n s₀ before s₀ before 0
+  going-first h =
       let z : n - 0 ≡ n = omega arith in
       record {
         room = h;
-        held = f;
         same = refl;
-        room-left = rw z (omega arith);
         state-is = ap (λ (k : ℕ). state_after m s₀ (calls_from call 0 k)) z;
-        rows_are = ap (λ (k : ℕ). put before 0 (numbers (rows_of m s₀ (calls_from call 0 k)))) z;
+        rows_are = λ j. put before (zero-mul width j) (numbers (rows_of m s₀ (calls_from call 0 (z j))));
       }
 
-  pub going_on : ((s : S) (c : C) → length (m.row s c) ≡ width) → {s : S} {rows : List ℕ} {i at : ℕ} → Going m width call n s₀ before s rows i at
-      → i < n → (t : S) → t ≡ m.next s (call i) → {more : List ℕ} → more ≡ put rows at (m.row s (call i))
-      → Going m width call n s₀ before t more (i + 1) (at + width)
+  pub going_on : ((s : S) (c : C) → length (m.row s c) ≡ width) → {s : S} {rows : List ℕ} {i : ℕ} → Going m width call n s₀ before s rows i
+      → i < n → (t : S) → t ≡ m.next s (call i) → {more : List ℕ} → more ≡ put rows (i * width) (m.row s (call i))
+      → Going m width call n s₀ before t more (i + 1)
   unfolding calls_from rows_of state_after numbers
-  going_on wide {s} {rows} {i} {at} g l t e {more} p =
+  going_on wide {s} {rows} {i} g l t e {more} p =
       let row = m.row s (call i) in
       let w : length row ≡ width = wide s (call i) in
       let cs = calls_from call (i + 1) (n - (i + 1)) in
       let rest : List ℕ = numbers (rows_of m (m.next s (call i)) cs) in
       let z : n - i ≡ suc (n - (i + 1)) = omega arith in
-      let y : (n - i) * width ≡ (n - (i + 1)) * width + width = ap (λ (k : ℕ). k * width) z ∙ suc-mul (n - (i + 1)) width in
-      let fits : at + length row ≤ length rows = omega (arith, g.room-left, w, y) in
-      let len : length more ≡ length rows = ap length p ∙ length-put rows at row fits in
+      let above : suc i ≡ i + 1 = omega arith in
+      let y : (i + 1) * width ≡ i * width + width = ap (λ (k : ℕ). k * width) (sym above) ∙ suc-mul i width in
+      let ends : (i + 1) * width ≤ n * width = mul-le-mul_right width (omega arith) in
+      let fits : i * width + length row ≤ length rows = omega (arith, g.room, g.same, w, y, ends) in
       record {
         room = g.room;
-        held = g.held;
-        same = len ∙ g.same;
-        room-left = omega (arith, g.room-left, len, y);
+        same = ap length p ∙ length-put rows (i * width) row fits ∙ g.same;
         state-is =
             ap (λ (u : S). state_after m u cs) e ∙ ap (λ (k : ℕ). state_after m s (calls_from call i k)) (sym z) ∙ g.state-is;
         rows_are =
-            (λ j. put (p j) (at + sym w j) (numbers (rows_of m (e j) cs)))
-            ∙ put-put rows at row rest fits
-            ∙ ap (λ (k : ℕ). put rows at (numbers (rows_of m s (calls_from call i k)))) (sym z)
+            (λ j. put (p j) ((y ∙ ap (λ (k : ℕ). i * width + k) (sym w)) j) (numbers (rows_of m (e j) cs)))
+            ∙ put-put rows (i * width) row rest fits
+            ∙ ap (λ (k : ℕ). put rows (i * width) (numbers (rows_of m s (calls_from call i k)))) (sym z)
             ∙ g.rows_are;
       }
 
-  module _ {s : S} {rows : List ℕ} {i at : ℕ} (g : Going m width call n s₀ before s rows i at) (l : n ≤ i) where
+  module _ {s : S} {rows : List ℕ} {i : ℕ} (g : Going m width call n s₀ before s rows i) (l : n ≤ i) where
     pub last-state : s ≡ state_after m s₀ (calls_from call 0 n)
     unfolding calls_from state_after
     last-state =
@@ -86,7 +73,7 @@ module _ {S C : Type 0} (m : CallStep S C) (width : ℕ) (call : ℕ → C) (n :
     unfolding calls_from rows_of numbers
     last_rows =
         let z : n - i ≡ 0 = omega arith in
-        sym (put-nothing rows at) ∙ ap (λ (k : ℕ). put rows at (numbers (rows_of m s (calls_from call i k)))) (sym z) ∙ g.rows_are
+        sym (put-nothing rows (i * width)) ∙ ap (λ (k : ℕ). put rows (i * width) (numbers (rows_of m s (calls_from call i k)))) (sym z) ∙ g.rows_are
 
 -- ---- the rows read back
 

@@ -1,10 +1,16 @@
 -- Calls that slices of one length tell, each answered by a row of numbers in a lent slice. Assumes nothing.
-use Rattle.std.specs.Prelude.{ℕ, zero, suc, ◌+◌, Bool, true, ◌&&◌, List, [], ◌∷◌, ◌++◌, eqb, take, drop}
+use Rattle.std.specs.Prelude.{ℕ, zero, suc, ◌+◌, Bool, cond, List, [], ◌∷◌, ◌++◌, leb, eqb, take, drop, Result, Ok, Err, codes}
+use Rattle.std.specs.List.{list_all}
+use Rattle.rows.specs.declared.RowsError.{RowsError}
+use Rattle.rows.specs.declared.RowsError.TheVariants.{Unequal, NoRoom}
 
 -- lengths that are all one and the same
 abbrev pub one_length : ℕ → List ℕ → Bool
-one_length n [] = true
-one_length n (m ∷ ms) = eqb m n && one_length n ms
+one_length n ms = list_all (λ m. eqb m n) ms
+
+-- n calls are run whole where the slices beside the first are of its length and there is room for n rows, and else none of them is
+abbrev pub all_or_none : ℕ → List ℕ → ℕ → Result Unit RowsError
+all_or_none n lens room = cond (one_length n lens) (cond (leb n room) (Ok tt) (Err NoRoom)) (Err Unequal)
 
 -- n calls, from a number on
 unfoldable pub calls_from : {C : Type 0} → (ℕ → C) → ℕ → ℕ → List C
@@ -35,3 +41,9 @@ numbers (r ∷ rs) = r ++ numbers rs
 unfoldable pub rows_in : ℕ → ℕ → List ℕ → List (List ℕ)
 rows_in width zero xs = []
 rows_in width (suc n) xs = take width xs ∷ rows_in width n (drop width xs)
+
+-- ---- the reasons in words
+
+abbrev pub reason : RowsError → List ℕ
+reason Unequal = codes "the calls' slices are not of one length"
+reason NoRoom = codes "the rows have no room for the answers"
