@@ -8,7 +8,8 @@ use mathlib.Core.Bool.{Bool, true, false, cond}
 use mathlib.Core.List.{List, [], ◌∷◌}
 use native.Mathlib.Omega.{arith}
 use lib.IntN.{ℤ}
-use lib.ListN.{length, replicate}
+use lib.ListN.{length, replicate, drop}
+use Rattle.std.specs.Result.{MatchResult, IsOkAnd}
 use mir.Syntax.{w64}
 use mir.Val.{SFits, to_z, of_z}
 use mir.ValLaws.{to_z-of_z}
@@ -16,6 +17,7 @@ use Rattle.error.specs.Answer.{Answer, accepted, refused, numbered, and_then}
 use Rattle.error.specs.Refusal.{said}
 use Rattle.demuxer.specs.Read.{said_next, said_read, read_of}
 use Rattle.demuxer.specs.declared.walker.Walker.{Walker}
+use Rattle.demuxer.specs.declared.packet.Packet.{Packet}
 use Rattle.demuxer.specs.declared.walker.Read.{Read}
 use Rattle.seek.specs.Seek.{Seeking, seek_of}
 use Rattle.muxer.specs.Writer.{WriteOutcome, MeetsOutcome, outcome, after_packet, packet_questions, packet_call}
@@ -47,6 +49,19 @@ known said_of e t = sym e ∙ ap said_of t
 pub gave : {A R : Type 0} {answer : Answer A} {r v : R} (said_of : R → Answer A) (f : A → List ℕ) → said_of r ≡ answer → r ≡ v
     → given f answer ≡ given f (said_of v)
 gave said_of f e t = ap (λ a. given f a) (known said_of e t)
+
+-- the answer of a call whose words come of its result by `map`
+pub says-mapped : {A : Type 0} {answer : Answer A} {number : ℕ} {out : List ℕ} (n : ℕ) (r : Result A AmvError) (m : Result (List ℕ) AmvError)
+    (words : A → List ℕ) → said r ≡ answer → MatchResult r (λ x. IsOkAnd m (λ y. y ≡ 0 ∷ words x)) (λ e. m ≡ Err e)
+    → OutSays n (given (drop 1) (said m)) number out → OutSays n (given words answer) number out
+says-mapped {A} {answer} {number} {out} n r m words e f s =
+    subst (λ (a : Answer (List ℕ)). OutSays n a number out) (by_cases r m f ∙ ap (given words) e) s
+  where
+    by_cases : (r : Result A AmvError) (m : Result (List ℕ) AmvError) → MatchResult r (λ x. IsOkAnd m (λ y. y ≡ 0 ∷ words x)) (λ e. m ≡ Err e)
+        → given (drop 1) (said m) ≡ given words (said r)
+    by_cases (Ok x) (Ok y) f = ap (λ (l : List ℕ). accepted (drop 1 l)) f
+    by_cases (Ok x) (Err e) f = absurd f
+    by_cases (Err e) m f = ap (λ (v : Result (List ℕ) AmvError). given (drop 1) (said v)) f
 
 -- ---- a state's words: the call goes on with the state that they spell
 

@@ -2,9 +2,9 @@
 // its refusal, or 0; it writes every word of `out`, and where it refuses it changes nothing else.
 #![tactic(auto)]
 
-ghost use Rattle.std.specs.Prelude.{◌≡◌, cond};
+ghost use Rattle.std.specs.Prelude.{◌≡◌, ◌<◌, ◌∷◌, cond};
 ghost use Rattle.error.specs.Refusal.{said};
-ghost use Rattle.error.specs.Answer.{accepted};
+ghost use Rattle.error.specs.Answer.{accepted, refused, numbered};
 ghost use Rattle.chunk.specs.Interleave.{interleave};
 ghost use Rattle.duration.specs.Duration.{packed_of, run_length};
 ghost use Rattle.prelude.specs.Prelude.{parse_of, strict_of};
@@ -16,26 +16,39 @@ ghost use Rattle.registers.specs.Registers as registers;
 ghost use Rattle.registers.specs.Steps.{call_of};
 ghost use Rattle.words.specs.Out.{OutSays, checked};
 ghost use Rattle.words.specs.State.{walker_of};
-ghost use Rattle.capi.specs.Calls.{summary_answer, check_answer, index_answer, page_answer, parse_answer, samples_answer};
+ghost use Rattle.capi.specs.Calls.{single, counts_words, totals_words, summary_answer, check_answer, index_answer, page_answer, parse_answer, samples_answer};
 ghost use Rattle.capi.specs.Calls.{WalkerCall, next_answer, next_walker, seek_answer, seek_walker, StepCall, WriterCall};
-ghost use Rattle.capi.specs.Steps.{DoneInWords, Performs, read_performed, seek_performed};
+ghost use Rattle.capi.specs.Steps.{given_words, DoneInWords, Performs, read_performed, seek_performed};
 
 use chunk_index::index::build_chunk_index;
-use chunk_index::summary::summary;
-use demuxer::walker::Walker;
+use chunk_index::summary::{ChunkCounts, summary};
+use demuxer::packet::Packet;
+use demuxer::walker::{Read, Walker};
 use duration::AmvDuration;
-use finished::check;
+use error::AmvError;
+use finished::{Totals, check};
+use muxer::Wrote;
 use page::print_index;
 use prelude::prelude::AmvPrelude;
 use registers::{Command, Told, command_in, signed, write_block};
 use seek::seek_to_via_index;
 use sound::decode_block;
-use words::out::{packet_out, prelude_out, result_out};
+use words::out::{answer_out, packet_out, prelude_out, result_out};
 use words::walker::{at_position, mark_word, walker_of, walker_words};
 use words::writer::{at_counts, writer_of, writer_words};
 
 // The number of a call whose state's words are not all in their fields' ranges.
 const ILLEGAL_STATE: u32 = 1;
+
+// The answer of such a call, and zeros.
+fn illegal_state<const N: usize>(out: &mut [u64; N]) -> u32
+    requires { 0 < N }
+    ensures { OutSays N (refused (numbered 1 0)) result out.new }
+{
+    let zeros = [0; N];
+    *out = zeros;
+    ILLEGAL_STATE
+}
 
 // The packed run length of a number of frames, 0 for fps 0, minutes and seconds at most 59: a caller that fills in a header asks for it, and one
 // that shows how long a file plays. It refuses nothing.
@@ -52,43 +65,46 @@ pub fn amv_validate_movi_interleave(tags: &[u32], out: &mut [u64; 1]) -> u32
     result_out(chunk::interleave::validate_movi_interleave(tags), out)
 }
 
+// The words of the counts of a file.
+fn counts_out(counts: ChunkCounts) -> [u64; 3]
+    ensures { result ≡ (0 ∷ counts_words counts) }
+{
+    [0, counts.frames, counts.blocks]
+}
+
 // The frames and blocks of a file, without a table. Refuses with 10 and 31.
 pub fn amv_summary(file: &[u8], out: &mut [u64; 3]) -> u32
     ensures { OutSays 3 (summary_answer file.now) result out.new }
 {
-    match summary(file) {
-        Ok(counts) => {
-            *out = [0, counts.frames, counts.blocks];
-            0
-        }
-        Err(e) => {
-            *out = [e.place(), 0, 0];
-            e.number()
-        }
-    }
+    answer_out(summary(file).map(counts_out), out)
+}
+
+// The words of the totals of a finished recording.
+fn totals_out(totals: Totals) -> [u64; 6]
+    ensures { result ≡ (0 ∷ totals_words totals) }
+{
+    [
+        0,
+        totals.frames,
+        totals.blocks,
+        totals.samples,
+        totals.trailer,
+        mark_word(totals.paired),
+    ]
 }
 
 // Whether a file is a finished recording, and its totals. Refuses with 10 to 24, 60, 61 and 31.
 pub fn amv_check(file: &[u8], out: &mut [u64; 6]) -> u32
     ensures { OutSays 6 (check_answer file.now) result out.new }
 {
-    match check(file) {
-        Ok(totals) => {
-            *out = [
-                0,
-                totals.frames,
-                totals.blocks,
-                totals.samples,
-                totals.trailer,
-                mark_word(totals.paired),
-            ];
-            0
-        }
-        Err(e) => {
-            *out = [e.place(), 0, 0, 0, 0, 0];
-            e.number()
-        }
-    }
+    answer_out(check(file).map(totals_out), out)
+}
+
+// The words of one number.
+fn number_out(number: u64) -> [u64; 2]
+    ensures { result ≡ (0 ∷ single number) }
+{
+    [0, number]
 }
 
 // The index of a file into a table, for the jumps; gives the number of records. Refuses with 10, 31 and 40.
@@ -96,16 +112,8 @@ pub fn amv_build_chunk_index(file: &[u8], table: &mut [u8], out: &mut [u64; 2]) 
     ensures out_says { OutSays 2 (index_answer file.now table.old) result out.new }
     ensures table_after { table.new ≡ (build_of file.now table.old).table }
 {
-    match build_chunk_index(file, table) {
-        Ok(count) => {
-            *out = [0, count as u64];
-            0
-        }
-        Err(e) => {
-            *out = [e.place(), 0];
-            e.number()
-        }
-    }
+    let count = build_chunk_index(file, table).map(|count| count as u64);
+    answer_out(count.map(number_out), out)
 }
 
 // The page of an index for the strip printer: a line of 40 columns for each record; gives the number of lines. Refuses with 41, 43, 70 and 40.
@@ -113,16 +121,8 @@ pub fn amv_print_index(table: &[u8], page: &mut [u8], out: &mut [u64; 2]) -> u32
     ensures out_says { OutSays 2 (page_answer table.now page.old) result out.new }
     ensures page_after { page.new ≡ (print_of table.now page.old).page }
 {
-    match print_index(table, page) {
-        Ok(lines) => {
-            *out = [0, lines as u64];
-            0
-        }
-        Err(e) => {
-            *out = [e.place(), 0];
-            e.number()
-        }
-    }
+    let lines = print_index(table, page).map(|lines| lines as u64);
+    answer_out(lines.map(number_out), out)
 }
 
 // The samples of a sound block: IMA ADPCM, a signed 16-bit number for each nibble; gives how many they are. Refuses with 25, 71, 72 and 73.
@@ -130,16 +130,8 @@ pub fn amv_decode_block(block: &[u8], samples: &mut [i16], out: &mut [u64; 2]) -
     ensures out_says { OutSays 2 (samples_answer block.now samples.old) result out.new }
     ensures samples_after { samples.new ≡ (decode_of block.now samples.old).samples }
 {
-    match decode_block(block, samples) {
-        Ok(count) => {
-            *out = [0, count as u64];
-            0
-        }
-        Err(e) => {
-            *out = [e.place(), 0];
-            e.number()
-        }
-    }
+    let count = decode_block(block, samples).map(|count| u64::from(count));
+    answer_out(count.map(number_out), out)
 }
 
 // Either way of parsing the prelude.
@@ -157,16 +149,14 @@ fn parsed(file: &[u8], strict: bool) -> Result<AmvPrelude, AmvError>
 pub fn amv_parse(file: &[u8], strict: bool, out: &mut [u64; 16]) -> u32
     ensures { OutSays 16 (parse_answer file.now strict) result out.new }
 {
-    match parsed(file, strict) {
-        Ok(prelude) => {
-            *out = prelude_out(prelude);
-            0
-        }
-        Err(e) => {
-            *out = [e.place(), 0, 0, 0, 0, 0, 0, 0, 0, 0, 0, 0, 0, 0, 0, 0];
-            e.number()
-        }
-    }
+    answer_out(parsed(file, strict).map(prelude_out), out)
+}
+
+// The words of what a read gives: of its packet, or zeros for End.
+fn read_out(packet: Option<Packet>) -> [u64; 7]
+    ensures { result ≡ (0 ∷ given_words packet) }
+{
+    packet.map_or([0; 7], packet_out)
 }
 
 // The packet at the walker, or End, and the walker past it. Refuses with 1, 10, 32 and 31.
@@ -175,31 +165,18 @@ pub fn amv_next_packet(file: &[u8], walker: &mut [u64; 7], out: &mut [u64; 7]) -
         walker.old result out.new walker.new }
 {
     let Some(state) = walker_of(*walker) else {
-        *out = [0; 7];
-        return ILLEGAL_STATE;
+        return illegal_state(out);
     };
-    let read = state.next_packet(file);
-    let next = read.walker;
-    let answer = read.answer;
+    let Read {
+        answer,
+        walker: next,
+    } = state.next_packet(file);
     match answer {
-        Ok(Some(packet)) => {
-            // Only the position is new, so four words are stored and not seven.
-            let position = next.position;
-            *walker = at_position(*walker, position);
-            *out = packet_out(packet);
-            0
-        }
-        Ok(None) => {
-            *walker = walker_words(next);
-            *out = [0; 7];
-            0
-        }
-        Err(e) => {
-            *walker = walker_words(next);
-            *out = [e.place(), 0, 0, 0, 0, 0, 0];
-            e.number()
-        }
+        // Only the position is new, so four words are stored and not seven.
+        Ok(Some(_)) => *walker = at_position(*walker, next.position),
+        Ok(None) | Err(_) => *walker = walker_words(next),
     }
+    answer_out(answer.map(read_out), out)
 }
 
 // A jump by the index: the walker at the first chunk of the stream whose stamp is the request or later. Refuses with 1, 42, 41, 43 and 32.
@@ -214,23 +191,11 @@ pub fn amv_seek_to_via_index(
         walker.old result out.new walker.new }
 {
     let Some(state) = walker_of(*walker) else {
-        *out = [0, 0];
-        return ILLEGAL_STATE;
+        return illegal_state(out);
     };
     let sought = seek_to_via_index(state, table, stream, request);
-    let next = sought.walker;
-    *walker = walker_words(next);
-    let result = sought.result;
-    match result {
-        Ok(stamp) => {
-            *out = [0, stamp];
-            0
-        }
-        Err(e) => {
-            *out = [e.place(), 0];
-            e.number()
-        }
-    }
+    *walker = walker_words(sought.walker);
+    answer_out(sought.result.map(number_out), out)
 }
 
 // The read of a step, by amv_next_packet: what the block is to tell of it, with the packet's words in `out`, or 0 in each where it gave none. It
@@ -238,15 +203,14 @@ pub fn amv_seek_to_via_index(
 fn read_step(file: &[u8], walker: &mut [u64; 7], out: &mut [u64; 7]) -> Told
     ensures { Performs (read_performed file.now) walker.old result out.new walker.new }
 {
-    let number = amv_next_packet(file, walker, out);
-    if number != 0 {
-        *out = [0; 7];
-        return Told::Refused(number as u8);
+    match amv_next_packet(file, walker, out) {
+        0 if out[1] == 0 => Told::Nothing,
+        0 => Told::Gave(out[5]),
+        number => {
+            *out = [0; 7];
+            Told::Refused(number as u8)
+        }
     }
-    if out[1] == 0 {
-        return Told::Nothing;
-    }
-    Told::Gave(out[5])
 }
 
 // The seek of a step, by amv_seek_to_via_index: what the block is to tell of it, with 0 in each word of `out`. It refuses nothing: where the seek is
@@ -262,12 +226,11 @@ fn seek_step(
         walker.old result out.new walker.new }
 {
     *out = [0; 7];
-    let mut sought = [0u64; 2];
-    let number = amv_seek_to_via_index(table, walker, stream, signed(request), &mut sought);
-    if number != 0 {
-        return Told::Refused(number as u8);
+    let mut sought = [0; 2];
+    match amv_seek_to_via_index(table, walker, stream, signed(request), &mut sought) {
+        0 => Told::Went(sought[1]),
+        number => Told::Refused(number as u8),
     }
-    Told::Went(sought[1])
 }
 
 // Performs the command of a step on a walker and its words, through the calls above, so that what a read or a seek does is the same code in a step.
@@ -308,14 +271,12 @@ pub fn amv_register_step(
         result out.new walker.new block.new }
 {
     let Some(state) = walker_of(*walker) else {
-        *out = [0; 7];
-        return ILLEGAL_STATE;
+        return illegal_state(out);
     };
     match command_in(block) {
         Err(e) => {
             *walker = walker_words(state);
-            *out = [e.place(), 0, 0, 0, 0, 0, 0];
-            e.number()
+            answer_out(Err(e), out)
         }
         Ok(command) => {
             let told = perform(file, table, state, walker, command, out);
@@ -331,14 +292,11 @@ pub fn amv_write_header(writer: &mut [u64; 9], buf: &mut [u8], out: &mut [u64; 1
         writer.old buf.old result out.new writer.new buf.new }
 {
     let Some(state) = writer_of(*writer) else {
-        *out = [0];
-        return ILLEGAL_STATE;
+        return illegal_state(out);
     };
     let wrote = state.write_header(buf);
-    let next = wrote.writer;
-    *writer = writer_words(next);
-    let result = wrote.result;
-    result_out(result, out)
+    *writer = writer_words(wrote.writer);
+    result_out(wrote.result, out)
 }
 
 // Writes a packet after what is written. Refuses with 1, 51, 55, 56, 52, 53 and 54.
@@ -353,25 +311,16 @@ pub fn amv_write_packet(
         writer.old buf.old result out.new writer.new buf.new }
 {
     let Some(state) = writer_of(*writer) else {
-        *out = [0];
-        return ILLEGAL_STATE;
+        return illegal_state(out);
     };
-    let wrote = state.write_packet(buf, payload, stream);
-    let next = wrote.writer;
+    let Wrote {
+        result,
+        writer: next,
+    } = state.write_packet(buf, payload, stream);
     // A packet moves two words; from the state all nine would be carried past the copy of the payload.
     *writer = at_counts(*writer, next.written, next.frames);
     // Answered here and not by result_out: packets are many, and the call alone would take a third of the time.
-    let result = wrote.result;
-    match result {
-        Ok(()) => {
-            *out = [0];
-            0
-        }
-        Err(e) => {
-            *out = [e.place()];
-            e.number()
-        }
-    }
+    result_out(result, out)
 }
 
 // Writes the trailer, and the run length into the prelude: the last call of a writer. Refuses with 1, 51, 55, 56 and 54.
@@ -380,12 +329,9 @@ pub fn amv_write_trailer(writer: &mut [u64; 9], buf: &mut [u8], out: &mut [u64; 
         writer.old buf.old result out.new writer.new buf.new }
 {
     let Some(state) = writer_of(*writer) else {
-        *out = [0];
-        return ILLEGAL_STATE;
+        return illegal_state(out);
     };
     let wrote = state.write_trailer(buf);
-    let next = wrote.writer;
-    *writer = writer_words(next);
-    let result = wrote.result;
-    result_out(result, out)
+    *writer = writer_words(wrote.writer);
+    result_out(wrote.result, out)
 }

@@ -1,14 +1,26 @@
 // The words of an answer. None of these functions refuses: each spells out an answer that is known.
 ghost use Rattle.std.specs.Prelude.{◌≡◌, ◌∷◌, ◌<◌, drop};
-ghost use Rattle.error.specs.Refusal.{said};
+ghost use Rattle.error.specs.Answer.{refused};
+ghost use Rattle.error.specs.Refusal.{refusal_of, said};
 ghost use Rattle.words.specs.Out.{OutSays, checked, given, prelude_words, packet_words};
 
 use demuxer::packet::Packet;
 use error::AmvError;
 use prelude::prelude::AmvPrelude;
 
+// The answer of a call that refuses: gives the refusal's number, and leaves its place in `out` and zeros after it.
+pub fn refusal_out<const N: usize>(e: AmvError, out: &mut [u64; N]) -> u32
+    requires { 0 < N }
+    ensures { OutSays N (refused (refusal_of e)) result out.new }
+{
+    let mut words = [0; N];
+    words[0] = e.place();
+    *out = words;
+    e.number()
+}
+
 // The answer of a call: gives its number, and leaves in `out` the words that it gives, or the refusal's place and zeros. The first word is the
-// place, so an accepted answer has 0 there.
+// place, so an accepted answer has 0 there. Refusals are a function of their own, so that this one is short enough to stand in each call.
 pub fn answer_out<const N: usize>(res: Result<[u64; N], AmvError>, out: &mut [u64; N]) -> u32
     requires { 0 < N }
     ensures { OutSays N (given (drop 1) (said res.entry)) result out.new }
@@ -19,12 +31,7 @@ pub fn answer_out<const N: usize>(res: Result<[u64; N], AmvError>, out: &mut [u6
             out[0] = 0;
             0
         }
-        Err(e) => {
-            let mut words = [0; N];
-            words[0] = e.place();
-            *out = words;
-            e.number()
-        }
+        Err(e) => refusal_out(e, out),
     }
 }
 

@@ -26,11 +26,7 @@ fn trailer_word(trailer: Option<u64>) -> u64
 pub fn mark_of(word: u64) -> Option<bool>
     ensures { result ≡ mark_in word }
 {
-    match word {
-        0 => Some(false),
-        1 => Some(true),
-        _ => None,
-    }
+    (word <= 1).then_some(word == 1)
 }
 
 // The word of a mark: 1 for true, 0 for false.
