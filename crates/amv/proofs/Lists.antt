@@ -1,7 +1,6 @@
 -- The methods are 01's calls by their contracts: a reader stands for its walker as long as it holds the file, and a writer for its state.
 -- Assumes nothing.
 use mathlib.Core.Path.{◌≡◌, refl, ap, subst}
-use Rattle.error.specs.Refusal.{said}
 use Prim.Native.Nat.{ℕ}
 use mathlib.Core.List.{List}
 use denote.Ref.{Bor}

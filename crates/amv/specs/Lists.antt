@@ -1,8 +1,7 @@
 -- Lists of the methods of the reader and of the writer, and demand 3 of what they return and leave. Assumes nothing.
-use Rattle.std.specs.Prelude.{◌≡◌, ℕ, ◌<◌, List, ℤ, length, take}
-use Rattle.std.specs.Prelude.{Result, Ok, Err}
-use Rattle.std.specs.Prelude.{Option, Some, None}
+use Rattle.std.specs.Prelude.{◌≡◌, ℕ, ◌<◌, List, ℤ, length, take, Result, Option}
 use Rattle.error.specs.declared.AmvError.{AmvError}
+use Rattle.demuxer.specs.declared.packet.Packet.{Packet}
 use Rattle.std.specs.Borrow.{Bor}
 use Rattle.error.specs.Answer.{Answer}
 use Rattle.error.specs.Refusal.{said}

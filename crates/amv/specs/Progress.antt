@@ -1,6 +1,5 @@
 -- What the reads so far tell of the trailer. Assumes nothing.
-use Rattle.std.specs.Prelude.{ℕ, ◌+◌, eqb}
-use Rattle.std.specs.Prelude.{Option, Some, None}
+use Rattle.std.specs.Prelude.{ℕ, ◌+◌, Bool, eqb, Option, Some, None}
 
 -- whether the trailer's 8 bytes are the last of a stream of a length
 abbrev pub matches_eof : Option ℕ → ℕ → Option Bool

@@ -1,8 +1,7 @@
 -- What a call does to the reader that holds the file: what the call by value does to its walker, and the file stays. Assumes nothing.
-use Rattle.std.specs.Prelude.{◌≡◌, ℕ, List, ℤ}
-use Rattle.std.specs.Prelude.{Result, Ok, Err}
-use Rattle.std.specs.Prelude.{Option, Some, None}
+use Rattle.std.specs.Prelude.{◌≡◌, ℕ, List, ℤ, Result, Option}
 use Rattle.error.specs.declared.AmvError.{AmvError}
+use Rattle.demuxer.specs.declared.packet.Packet.{Packet}
 use Rattle.std.specs.Borrow.{Bor}
 use Rattle.demuxer.specs.Read.{fresh, said_read, Placed, read_of}
 use Rattle.seek.specs.Seek.{said_seek_outcome, seek_of}

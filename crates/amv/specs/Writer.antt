@@ -1,6 +1,5 @@
 -- What a call does to the writer that it changes. Assumes nothing.
-use Rattle.std.specs.Prelude.{ℕ, List}
-use Rattle.std.specs.Prelude.{Result, Ok, Err}
+use Rattle.std.specs.Prelude.{ℕ, List, Result}
 use Rattle.error.specs.declared.AmvError.{AmvError}
 use Rattle.muxer.specs.Writer.{WriteOutcome, MeetsOutcome}
 use Rattle.amv.specs.declared.writer.AmvMuxer.{AmvMuxer}

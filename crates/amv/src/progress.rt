@@ -8,16 +8,14 @@ use demuxer::walker::Walker;
 pub fn video_frames_emitted(walker: Walker) -> u64
     ensures { result ≡ walker.position.frames.0 }
 {
-    let position = walker.position;
-    position.frames.0
+    walker.position.frames.0
 }
 
 // The blocks of sound before the next read: blocks, not samples.
 pub fn audio_blocks_emitted(walker: Walker) -> u64
     ensures { result ≡ walker.position.blocks.0 }
 {
-    let position = walker.position;
-    position.blocks.0
+    walker.position.blocks.0
 }
 
 // Whether as many blocks as frames stand before the next read.
@@ -45,14 +43,7 @@ pub fn trailer_offset(walker: Walker) -> Option<u64>
 pub fn trailer_matches_eof(walker: Walker, stream_len: u64) -> Option<bool>
     ensures { result ≡ matches_eof walker.trailer stream_len }
 {
-    let trailer = walker.trailer;
-    match trailer {
-        Some(offset) => {
-            if stream_len < 8 {
-                return Some(false);
-            }
-            Some(stream_len - 8 == offset)
-        }
-        None => None,
-    }
+    walker
+        .trailer
+        .map(|offset| stream_len >= 8 && stream_len - 8 == offset)
 }

@@ -6,9 +6,10 @@ ghost use Rattle.amv.specs.Progress.{matches_eof};
 
 use demuxer::packet::Packet;
 use demuxer::walker::Walker;
+use error::AmvError;
 
 // The file and where the next read stands in it.
-#[derive(Clone, Copy)]
+#[derive(Clone, Copy, Debug, PartialEq, Eq)]
 pub struct AmvDemuxer<'a> {
     pub file: &'a [u8],
     pub walker: Walker,

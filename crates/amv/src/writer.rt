@@ -3,10 +3,11 @@ ghost use Rattle.std.specs.Prelude.{◌≡◌};
 ghost use Rattle.muxer.specs.Writer.{fresh, header_call, packet_call, trailer_call};
 ghost use Rattle.amv.specs.Writer.{MuxerWrites};
 
+use error::AmvError;
 use muxer::{Settings, Writer};
 
 // What has been written, and the settings of the recording. The buffer is not held: a caller lends it to each call.
-#[derive(Clone, Copy)]
+#[derive(Clone, Copy, Debug, PartialEq, Eq)]
 pub struct AmvMuxer {
     pub writer: Writer,
 }
