@@ -1,45 +1,33 @@
--- How one call of the program goes on from another: writing calls one after the other, and the reads that are left. Assumes nothing.
-use mathlib.Core.Path.{◌≡◌, sym, ap, ap₂, ◌∙◌}
-use Rattle.error.specs.Refusal.{said}
-use Rattle.std.proofs.Common.{Result, Ok, Err}
-use Rattle.std.proofs.Common.{Option, Some, None}
+-- The reads that are left of a reader's file: a read takes one off them. Assumes nothing.
+use mathlib.Core.Path.{◌≡◌, sym, ap, ◌∙◌}
+use Rattle.std.proofs.Common.{Result, Option}
+use Rattle.std.specs.Borrow.{Bor}
 use Rattle.error.specs.declared.AmvError.{AmvError}
-use Prim.Native.Nat.{ℕ, suc, ◌-◌, ◌<◌, ◌≤◌}
+use Rattle.demuxer.specs.declared.packet.Packet.{Packet}
+use Prim.Native.Nat.{ℕ, suc, ◌-◌, ◌+◌, ◌<◌, ◌≤◌}
 use mathlib.Core.List.{List}
 use native.Mathlib.Omega.{arith}
-use Rattle.demuxer.specs.Read.{Reading, said_next, said_read, read_of}
-use Rattle.demuxer.specs.declared.walker.Read.{Read}
+use Rattle.demuxer.specs.Read.{Reading, said_next, read_of}
+use Rattle.amv.specs.Reader.{ReadsNext}
+use Rattle.amv.specs.declared.reader.AmvDemuxer.{AmvDemuxer}
 use Rattle.demuxer.specs.declared.walker.Walker.{Walker}
-use Rattle.muxer.specs.Writer.{WriteOutcome, MeetsOutcome}
-use Rattle.muxer.specs.declared.Writer.{Writer}
-use Rattle.muxer.specs.declared.Wrote.{Wrote}
-use Rattle.play.specs.Recording.{WriterLeft, go_on, played}
+use Rattle.play.specs.Recording.{go_on, played}
 
--- a call on what another left has the outcome of one after the other
-pub onwards : (f : Writer → List ℕ → WriteOutcome) (o : WriteOutcome) {w r : Writer} {b after : List ℕ} → WriterLeft o w b → WriterLeft (f w b) r after
-    → WriterLeft (f o.writer o.buffer) r after
-onwards f o first second =
-    record {
-      writer = second.writer ∙ ap₂ (λ (w : Writer) (b : List ℕ). (f w b).writer) first.writer first.buffer;
-      buffer = second.buffer ∙ ap₂ (λ (w : Writer) (b : List ℕ). (f w b).buffer) first.writer first.buffer;
-    }
-
--- one read of those that are left
-pub played-step : (n : ℕ) (file : List ℕ) (w : Walker) (r : Read) (a : Result (Option Packet) AmvError) → 0 < n → said_read file r ≡ read_of file w → r.answer ≡ a
-    → played n file w ≡ go_on (said_next file a) r.walker (played (n - 1) file r.walker)
+-- the read after `at` of them, with an answer that is known
+pub played-step : (d next : AmvDemuxer) (answer : Result (Option Packet) AmvError) (file : Bor (List ℕ)) (end at : ℕ) → d.file ≡ file → at < end
+    → ReadsNext d answer next → (a : Result (Option Packet) AmvError) → answer ≡ a
+    → played (end - at) file.now d.walker ≡ go_on (said_next file.now a) next.walker (played (end - (at + 1)) file.now next.walker)
 unfolding played
-played-step n file w r a some said is =
-    let one : n ≡ suc (n - 1) = omega (arith, some) in
-    ap (λ (k : ℕ). played k file w) one
-    ∙ ap (λ (x : Reading). go_on x.answer x.walker (played (n - 1) file x.walker)) (sym said)
-    ∙ ap (λ (y : Result (Option Packet) AmvError). go_on (said_next file y) r.walker (played (n - 1) file r.walker)) is
+played-step d next answer file end at held some reads a is =
+    let one : end - at ≡ suc (end - (at + 1)) = omega (arith, some) in
+    let reading : read_of file.now d.walker ≡ record { answer = said_next file.now answer; walker = next.walker } = rw (← held) (sym reads.0) in
+    ap (λ (k : ℕ). played k file.now d.walker) one
+    ∙ ap (λ (x : Reading). go_on x.answer x.walker (played (end - (at + 1)) file.now x.walker)) reading
+    ∙ ap (λ (y : Result (Option Packet) AmvError). go_on (said_next file.now y) next.walker (played (end - (at + 1)) file.now next.walker)) is
 
-pub played-none : (n : ℕ) (file : List ℕ) (w : Walker) → n ≤ 0 → w ≡ played n file w
+-- none are left
+pub played-none : (end at : ℕ) (file : List ℕ) (w : Walker) → end ≤ at → w ≡ played (end - at) file w
 unfolding played
-played-none n file w none =
-    let zeros : 0 ≡ n = omega (arith, none) in
+played-none end at file w none =
+    let zeros : 0 ≡ end - at = omega (arith, none) in
     ap (λ (k : ℕ). played k file w) zeros
-
--- a call's answer printed leaves its state and bytes
-pub kept : (o : WriteOutcome) {r : Wrote} {after : List ℕ} → MeetsOutcome o r after → WriterLeft o r.writer after
-kept o m = record { writer = m.writer; buffer = m.buffer }

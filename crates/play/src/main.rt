@@ -4,18 +4,16 @@
 ghost use Rattle.std.specs.Prelude.{◌≡◌, ◌++◌, length, take, OnOk};
 ghost use Rattle.std.specs.Fmt.{decimal};
 ghost use Rattle.std.specs.Io.KnownBytes.{Appends};
-ghost use Rattle.muxer.specs.Writer.{packet_call};
+ghost use Rattle.muxer.specs.Writer.{header_call, packet_call, trailer_call};
 ghost use Rattle.play.specs.Recording.{WriterLeft, pair_of, packets_of, recording_of, played};
 
-use amv::progress;
+use amv::reader::AmvDemuxer;
 use amv::writer::AmvMuxer;
 use chunk_index::entry::ChunkIndexEntry;
 use chunk_index::index::build_chunk_index;
 use demuxer::packet::Packet;
-use demuxer::walker::Walker;
 use error::AmvError;
-use muxer::{Settings, Writer, Wrote};
-use seek::SeekOutcome;
+use muxer::Settings;
 use std::io;
 use std::io::Write;
 
@@ -29,10 +27,7 @@ const TABLE_RECORDS: usize = 5;
 fn first(bytes: &[u8], len: usize) -> &[u8]
     ensures { result.now ≡ take len bytes.now }
 {
-    if len <= bytes.len() {
-        return &bytes[..len];
-    }
-    bytes
+    &bytes[..len.min(bytes.len())]
 }
 
 // Where the program prints, and whether every print so far has come through: after one that failed nothing more is printed, and what is written and
@@ -43,85 +38,165 @@ struct Printer<W: Write + Drop> {
     outcome: io::Result<()>,
 }
 
-// Text as it is.
-fn print<W: Write + Drop>(printer: &mut Printer<W>, text: &[u8])
-    ensures { OnOk printer.new.outcome (Appends (W.contents printer.old.out) (W.contents printer.new.out) text.now) }
-{
-    if printer.outcome.is_ok() {
-        printer.outcome = printer.out.write_all(text);
-    }
-}
-
-// A name, and a number in decimal after it.
-fn print_field<W: Write + Drop>(printer: &mut Printer<W>, name: &[u8], n: u64)
-    ensures { OnOk printer.new.outcome (Appends (W.contents printer.old.out) (W.contents printer.new.out) (name.now ++ decimal n)) }
-{
-    print(printer, name);
-    if printer.outcome.is_ok() {
-        printer.outcome = write!(printer.out, "{n}");
-    }
-}
-
-fn print_refusal(printer: &mut Printer<impl Write + Drop>, error: AmvError) {
-    print_field(printer, b": refused, question ", error.number() as u64);
-    print_field(printer, b" at ", error.place());
-    print(printer, b"\n")
-}
-
-fn print_wrote(printer: &mut Printer<impl Write + Drop>, what: &[u8], wrote: Wrote) {
-    print(printer, what);
-    let result = wrote.result;
-    match result {
-        Ok(()) => {
-            let writer = wrote.writer;
-            print_field(printer, b": the file has ", writer.written);
-            print(printer, b" bytes\n")
+impl<W: Write + Drop> Printer<W> {
+    // Text as it is.
+    fn print(&mut self, text: &[u8])
+        ensures { OnOk self.new.outcome (Appends (W.contents self.old.out) (W.contents self.new.out) text.now) }
+    {
+        if self.outcome.is_ok() {
+            self.outcome = self.out.write_all(text);
         }
-        Err(error) => print_refusal(printer, error),
+    }
+
+    // A name, and a number in decimal after it.
+    fn print_field(&mut self, name: &[u8], n: u64)
+        ensures { OnOk self.new.outcome (Appends (W.contents self.old.out) (W.contents self.new.out) (name.now ++ decimal n)) }
+    {
+        self.print(name);
+        if self.outcome.is_ok() {
+            self.outcome = write!(self.out, "{n}");
+        }
+    }
+
+    // The end of a line that tells why a call refused.
+    fn print_refusal(&mut self, error: AmvError) {
+        self.print(b": refused, ");
+        if self.outcome.is_ok() {
+            self.outcome = write!(self.out, "{error}");
+        }
+        self.print(b"\n")
+    }
+
+    // What was to be written, and how long the file is after it.
+    fn print_wrote(&mut self, what: &[u8], outcome: Result<(), AmvError>, written: u64) {
+        self.print(what);
+        match outcome {
+            Ok(()) => {
+                self.print_field(b": the file has ", written);
+                self.print(b" bytes\n")
+            }
+            Err(error) => self.print_refusal(error),
+        }
+    }
+
+    // A packet that was read; of a frame also its payload, which is text here.
+    fn print_packet(&mut self, reader: &AmvDemuxer, packet: Packet) {
+        let frame = packet.stream == 0;
+        self.print(if frame { b"frame" } else { b"sound" });
+        self.print_field(b" of ", packet.len as u64);
+        self.print_field(b" bytes at ", packet.start as u64);
+        self.print_field(b", stamp ", packet.stamp);
+        if frame {
+            self.print(b": ");
+            self.print(reader.payload(packet));
+        }
+        self.print(b"\n")
+    }
+
+    // Where the trailer stands, and whether it ends the file.
+    fn print_trailer(&mut self, reader: &AmvDemuxer) {
+        match reader.trailer_offset() {
+            Some(offset) => self.print_field(b", trailer at ", offset),
+            None => self.print(b", no trailer"),
+        }
+        if reader.trailer_matches_eof(reader.file.len() as u64) == Some(true) {
+            self.print(b" ends the file");
+        }
+    }
+
+    // What the reads so far have met.
+    fn print_progress(&mut self, reader: &AmvDemuxer) {
+        self.print_field(b"end: frames ", reader.video_frames_emitted());
+        self.print_field(b", blocks ", reader.audio_blocks_emitted());
+        if reader.movi_interleave_balanced() {
+            self.print(b", balanced");
+        }
+        if reader.is_truncated() {
+            self.print(b", cut");
+        }
+        self.print_trailer(reader);
+        self.print(b"\n")
+    }
+
+    // The stamp that a jump led to.
+    fn print_sought(&mut self, sought: Result<u64, AmvError>) {
+        self.print(b"jump");
+        match sought {
+            Ok(stamp) => {
+                self.print_field(b" to stamp ", stamp);
+                self.print(b"\n")
+            }
+            Err(error) => self.print_refusal(error),
+        }
     }
 }
 
-fn write_packet(
-    printer: &mut Printer<impl Write + Drop>,
-    what: &[u8],
-    writer: Writer,
-    buf: &mut [u8],
-    payload: &[u8],
-    stream: u32,
-) -> Writer
-    ensures { WriterLeft (packet_call writer payload.now stream buf.old) result buf.new }
-{
-    let wrote = amv::plain::write_packet(writer, buf, payload, stream);
-    print_wrote(printer, what, wrote);
-    wrote.writer
+// The recording as far as it is written: the writer, and the room that it writes to.
+#[derive(Drop)]
+struct Recording {
+    muxer: AmvMuxer,
+    buf: [u8; ROOM],
 }
 
-fn write_pair(
-    printer: &mut Printer<impl Write + Drop>,
-    writer: Writer,
-    buf: &mut [u8],
-    frame: &[u8],
-    block: &[u8],
-) -> Writer
-    ensures { WriterLeft (pair_of writer buf.old frame.now block.now) result buf.new }
-{
-    let writer = write_packet(printer, b"frame", writer, buf, frame, 0);
-    write_packet(printer, b"sound", writer, buf, block, 1)
+impl Recording {
+    // The header.
+    fn write_header(&mut self, printer: &mut Printer<impl Write + Drop>)
+        ensures { WriterLeft (header_call self.old.muxer.writer self.old.buf) self.new.muxer.writer self.new.buf }
+    {
+        let result = self.muxer.write_header(&mut self.buf);
+        printer.print_wrote(b"header", result, self.muxer.writer.written);
+    }
+
+    // A packet.
+    fn write_packet(
+        &mut self,
+        printer: &mut Printer<impl Write + Drop>,
+        what: &[u8],
+        payload: &[u8],
+        stream: u32,
+    )
+        ensures { WriterLeft (packet_call self.old.muxer.writer payload.now stream self.old.buf) self.new.muxer.writer self.new.buf }
+    {
+        let result = self.muxer.write_packet(&mut self.buf, payload, stream);
+        printer.print_wrote(what, result, self.muxer.writer.written);
+    }
+
+    // A frame with its block of sound.
+    fn write_pair(&mut self, printer: &mut Printer<impl Write + Drop>, frame: &[u8], block: &[u8])
+        ensures { WriterLeft (pair_of self.old.muxer.writer self.old.buf frame.now block.now) self.new.muxer.writer self.new.buf }
+    {
+        self.write_packet(printer, b"frame", frame, 0);
+        self.write_packet(printer, b"sound", block, 1);
+    }
+
+    // Two frames, each with a block of sound: of 2 samples, and of 3. A packet of no stream is refused.
+    fn write_packets(&mut self, printer: &mut Printer<impl Write + Drop>)
+        ensures { WriterLeft (packets_of self.old.muxer.writer self.old.buf) self.new.muxer.writer self.new.buf }
+    {
+        self.write_pair(printer, b"one", &[0, 0, 0, 0, 2, 0, 0, 0, 7, 7]);
+        self.write_pair(printer, b"three", &[0, 0, 0, 0, 3, 0, 0, 0, 7, 7, 7]);
+        self.write_packet(printer, b"stream 2", b"none", 2);
+    }
+
+    // The trailer.
+    fn write_trailer(&mut self, printer: &mut Printer<impl Write + Drop>)
+        ensures { WriterLeft (trailer_call self.old.muxer.writer self.old.buf) self.new.muxer.writer self.new.buf }
+    {
+        let result = self.muxer.write_trailer(&mut self.buf);
+        printer.print_wrote(b"trailer", result, self.muxer.writer.written);
+    }
+
+    // The file: the bytes that are written.
+    fn file(&self) -> &[u8]
+        ensures { result.now ≡ take self.now.muxer.writer.written self.now.buf }
+    {
+        first(&self.buf, self.muxer.writer.written as usize)
+    }
 }
 
-// Two frames, each with a block of sound: of 2 samples, and of 3. A packet of no stream is refused.
-fn write_packets(printer: &mut Printer<impl Write + Drop>, writer: Writer, buf: &mut [u8]) -> Writer
-    ensures { WriterLeft (packets_of writer buf.old) result buf.new }
-{
-    let block = [0u8, 0, 0, 0, 2, 0, 0, 0, 7, 7];
-    let writer = write_pair(printer, writer, buf, b"one", &block);
-    let block = [0u8, 0, 0, 0, 3, 0, 0, 0, 7, 7, 7];
-    let writer = write_pair(printer, writer, buf, b"three", &block);
-    write_packet(printer, b"stream 2", writer, buf, b"none", 2)
-}
-
-fn write_recording(printer: &mut Printer<impl Write + Drop>, buf: &mut [u8]) -> Writer
-    ensures { WriterLeft (recording_of buf.old) result buf.new }
+// The whole recording, written to room that is given.
+fn write_recording(printer: &mut Printer<impl Write + Drop>, buf: [u8; ROOM]) -> Recording
+    ensures { WriterLeft (recording_of buf) result.muxer.writer result.buf }
 {
     let muxer = AmvMuxer::new(Settings {
         width: 8,
@@ -130,126 +205,55 @@ fn write_recording(printer: &mut Printer<impl Write + Drop>, buf: &mut [u8]) -> 
         rate: 8000,
         channels: 1,
     });
-    let writer = muxer.writer;
-    let header = amv::plain::write_header(writer, buf);
-    print_wrote(printer, b"header", header);
-    let writer = header.writer;
-    let writer = write_packets(printer, writer, buf);
-    let trailer = amv::plain::write_trailer(writer, buf);
-    print_wrote(printer, b"trailer", trailer);
-    trailer.writer
-}
-
-// Of a frame also its payload, which is text here.
-fn print_packet(printer: &mut Printer<impl Write + Drop>, file: &[u8], packet: Packet) {
-    let frame = packet.stream == 0;
-    if frame {
-        print(printer, b"frame");
-    } else {
-        print(printer, b"sound");
-    }
-    print_field(printer, b" of ", packet.len as u64);
-    print_field(printer, b" bytes at ", packet.start as u64);
-    print_field(printer, b", stamp ", packet.stamp);
-    if frame {
-        print(printer, b": ");
-        print(printer, amv::plain::payload(file, packet));
-    }
-    print(printer, b"\n")
+    let mut recording = Recording { muxer, buf };
+    recording.write_header(printer);
+    recording.write_packets(printer);
+    recording.write_trailer(printer);
+    recording
 }
 
 // Reads to the end, or to a refusal.
-fn play(printer: &mut Printer<impl Write + Drop>, file: &[u8], start: Walker) -> Walker
-    ensures { result ≡ played (length file.now) file.now start }
+fn play(printer: &mut Printer<impl Write + Drop>, reader: &mut AmvDemuxer)
+    ensures walker { reader.new.walker ≡ played (length reader.old.file.now) reader.old.file.now reader.old.walker }
+    ensures file { reader.new.file ≡ reader.old.file }
 {
-    let mut walker = start;
     // A chunk takes 8 bytes or more, so the walk ends first.
-    let mut left = file.len();
-    while left > 0 {
-        left -= 1;
-        let read = amv::plain::next_packet(file, walker);
-        let answer = read.answer;
-        let next = read.walker;
-        walker = next;
-        match answer {
-            Ok(Some(packet)) => print_packet(printer, file, packet),
-            Ok(None) => return walker,
+    for _ in 0..reader.file.len() {
+        match reader.next_packet() {
+            Ok(Some(packet)) => printer.print_packet(reader, packet),
+            Ok(None) => return,
             Err(error) => {
-                print(printer, b"read");
-                print_refusal(printer, error);
-                return walker;
+                printer.print(b"read");
+                printer.print_refusal(error);
+                return;
             }
         }
-    }
-    walker
-}
-
-fn print_trailer(printer: &mut Printer<impl Write + Drop>, walker: Walker, len: u64) {
-    match progress::trailer_offset(walker) {
-        Some(offset) => print_field(printer, b", trailer at ", offset),
-        None => print(printer, b", no trailer"),
-    }
-    match progress::trailer_matches_eof(walker, len) {
-        Some(true) => print(printer, b" ends the file"),
-        Some(false) | None => {}
-    }
-}
-
-fn print_progress(printer: &mut Printer<impl Write + Drop>, file: &[u8], walker: Walker) {
-    print_field(
-        printer,
-        b"end: frames ",
-        progress::video_frames_emitted(walker),
-    );
-    print_field(
-        printer,
-        b", blocks ",
-        progress::audio_blocks_emitted(walker),
-    );
-    if progress::movi_interleave_balanced(walker) {
-        print(printer, b", balanced");
-    }
-    if progress::is_truncated(walker) {
-        print(printer, b", cut");
-    }
-    print_trailer(printer, walker, file.len() as u64);
-    print(printer, b"\n")
-}
-
-fn print_sought(printer: &mut Printer<impl Write + Drop>, sought: SeekOutcome) {
-    print(printer, b"jump");
-    let result = sought.result;
-    match result {
-        Ok(stamp) => {
-            print_field(printer, b" to stamp ", stamp);
-            print(printer, b"\n")
-        }
-        Err(error) => print_refusal(printer, error),
     }
 }
 
 // From the second frame on: the sound that is read next belongs to it.
-fn jump(printer: &mut Printer<impl Write + Drop>, file: &[u8], walker: Walker, table: &[u8]) {
-    let sought = amv::plain::seek_to_via_index(file, walker, table, 0, 1);
-    print_sought(printer, sought);
-    let walker = play(printer, file, sought.walker);
-    print_progress(printer, file, walker)
+fn jump(printer: &mut Printer<impl Write + Drop>, reader: &mut AmvDemuxer, table: &[u8]) {
+    let sought = reader.seek_to_via_index(table, 0, 1);
+    printer.print_sought(sought);
+    play(printer, reader);
+    printer.print_progress(reader)
 }
 
 fn play_recording(printer: &mut Printer<impl Write + Drop>, file: &[u8]) {
-    let walker = play(printer, file, Walker::new());
-    print_progress(printer, file, walker);
+    let mut reader = AmvDemuxer::new(file);
+    play(printer, &mut reader);
+    printer.print_progress(&reader);
     let mut table = [0u8; TABLE_RECORDS * ChunkIndexEntry::LEN];
     match build_chunk_index(file, &mut table) {
         Ok(count) => {
             if count <= TABLE_RECORDS {
                 let records = first(&table, count * ChunkIndexEntry::LEN);
-                jump(printer, file, walker, records);
+                jump(printer, &mut reader, records);
             }
         }
         Err(error) => {
-            print(printer, b"index");
-            print_refusal(printer, error)
+            printer.print(b"index");
+            printer.print_refusal(error)
         }
     }
 }
@@ -259,8 +263,7 @@ fn main(rt: HostRuntime) -> io::Result<()> {
         out: rt.stdout(),
         outcome: Ok(()),
     };
-    let mut buf = [0u8; ROOM];
-    let writer = write_recording(&mut printer, &mut buf);
-    play_recording(&mut printer, first(&buf, writer.written as usize));
+    let recording = write_recording(&mut printer, [0; ROOM]);
+    play_recording(&mut printer, recording.file());
     printer.outcome
 }

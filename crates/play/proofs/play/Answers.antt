@@ -1,23 +1,24 @@
 -- `play::play` meets its contract. `played-step` takes one read off, and `played-none` closes the loop that has used up all.
 -- Assumes nothing.
-use Rattle.std.proofs.Common.{refl, sym, ◌∙◌}
+use Rattle.std.proofs.Common.{sym, ap, ◌∙◌, Ok}
 use Rattle.play.proofs.Laws.{played-step, played-none}
 use Rattle.play.proofs.play.Goals as goal
 
-pub loop-left-init : goal.loop-left-init
-loop-left-init g c = refl
+pub loop-preserved : goal.loop-preserved
+loop-preserved g c = (
+  c.next_packet.ensures.2 ∙ c.loop.invariant.0,
+  sym (played-step _ _ _ _ _ _ c.loop.invariant.0 c.loop-test.true c.next_packet.ensures _ (c.in-Ok-Some.is ∙ ap Ok c.in-Ok-Some.field-0-is))
+      ∙ c.loop.invariant.1,
+)
 
-pub loop-left-preserved : goal.loop-left-preserved
-loop-left-preserved g c =
-    sym (played-step _ _ _ _ _ c.loop-left-test.true c.next_packet-read.ensures.0 c.in-Packet.is) ∙ c.loop-left.invariant
+pub returns-in-Ok-None-clause-walker : goal.returns-in-Ok-None-clause-walker
+returns-in-Ok-None-clause-walker g c =
+    sym (played-step _ _ _ _ _ _ c.loop.invariant.0 c.loop-test.true c.next_packet.ensures _ (c.in-Ok-None.is ∙ ap Ok c.in-Ok-None.field-0-is))
+    ∙ c.loop.invariant.1
 
-pub returns-in-End : goal.returns-in-End
-returns-in-End g c =
-    sym (played-step _ _ _ _ _ c.loop-left-test.true c.next_packet-read.ensures.0 c.in-End.is) ∙ c.loop-left.invariant
+pub returns-in-Err-clause-walker : goal.returns-in-Err-clause-walker
+returns-in-Err-clause-walker g c =
+    sym (played-step _ _ _ _ _ _ c.loop.invariant.0 c.loop-test.true c.next_packet.ensures _ c.in-Err.is) ∙ c.loop.invariant.1
 
-pub returns-in-Err : goal.returns-in-Err
-returns-in-Err g c =
-    sym (played-step _ _ _ _ _ c.loop-left-test.true c.next_packet-read.ensures.0 c.in-Err.is) ∙ c.loop-left.invariant
-
-pub returns : goal.returns
-returns g c = played-none _ _ _ c.loop-left-test.false ∙ c.loop-left.invariant
+pub returns-clause-walker : goal.returns-clause-walker
+returns-clause-walker g c = played-none _ _ _ _ c.loop-test.false ∙ c.loop.invariant.1
