@@ -14,11 +14,11 @@ use Rattle.demuxer.specs.declared.walker.Walker.{Walker}
 use Rattle.play.specs.Recording.{go_on, played}
 
 -- the read after `at` of them, with an answer that is known
-pub played-step : (d next : AmvDemuxer) (answer : Result (Option Packet) AmvError) (file : Bor (List ℕ)) (end at : ℕ) → d.file ≡ file → at < end
+pub played_step : (d next : AmvDemuxer) (answer : Result (Option Packet) AmvError) (file : Bor (List ℕ)) (end at : ℕ) → d.file ≡ file → at < end
     → ReadsNext d answer next → (a : Result (Option Packet) AmvError) → answer ≡ a
     → played (end - at) file.now d.walker ≡ go_on (said_next file.now a) next.walker (played (end - (at + 1)) file.now next.walker)
 unfolding played
-played-step d next answer file end at held some reads a is =
+played_step d next answer file end at held some reads a is =
     let one : end - at ≡ suc (end - (at + 1)) = omega (arith, some) in
     let reading : read_of file.now d.walker ≡ record { answer = said_next file.now answer; walker = next.walker } = rw (← held) (sym reads.0) in
     ap (λ (k : ℕ). played k file.now d.walker) one
@@ -26,8 +26,8 @@ played-step d next answer file end at held some reads a is =
     ∙ ap (λ (y : Result (Option Packet) AmvError). go_on (said_next file.now y) next.walker (played (end - (at + 1)) file.now next.walker)) is
 
 -- none are left
-pub played-none : (end at : ℕ) (file : List ℕ) (w : Walker) → end ≤ at → w ≡ played (end - at) file w
+pub played_none : (end at : ℕ) (file : List ℕ) (w : Walker) → end ≤ at → w ≡ played (end - at) file w
 unfolding played
-played-none end at file w none =
+played_none end at file w none =
     let zeros : 0 ≡ end - at = omega (arith, none) in
     ap (λ (k : ℕ). played k file w) zeros

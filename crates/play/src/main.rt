@@ -213,6 +213,7 @@ fn write_recording(printer: &mut Printer<impl Write + Drop>, buf: [u8; ROOM]) ->
 }
 
 // Reads to the end, or to a refusal.
+#[tactic(auto, using(crate::proofs::Laws::played_none))]
 fn play(printer: &mut Printer<impl Write + Drop>, reader: &mut AmvDemuxer)
     ensures walker { reader.new.walker ≡ played (length reader.old.file.now) reader.old.file.now reader.old.walker }
     ensures file { reader.new.file ≡ reader.old.file }
