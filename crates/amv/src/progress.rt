@@ -1,4 +1,5 @@
-// What a walker tells of the reads so far. None of these functions refuses: each reads fields.
+// What a walker tells of the reads so far, for callers that keep one; the methods of `AmvDemuxer` of these names ask here. None of these functions
+// refuses: each reads fields.
 ghost use Rattle.std.specs.Prelude.{◌≡◌, eqb};
 ghost use Rattle.amv.specs.Progress.{matches_eof};
 

@@ -139,7 +139,7 @@ struct Recording {
 }
 
 impl Recording {
-    // The header.
+    // Writes the header, and prints what came of it.
     fn write_header(&mut self, printer: &mut Printer<impl Write + Drop>)
         ensures { WriterLeft (header_call self.old.muxer.writer self.old.buf) self.new.muxer.writer self.new.buf }
     {
@@ -147,7 +147,7 @@ impl Recording {
         printer.print_wrote(b"header", result, self.muxer.writer.written);
     }
 
-    // A packet.
+    // Writes a packet, and prints what came of it.
     fn write_packet(
         &mut self,
         printer: &mut Printer<impl Write + Drop>,
@@ -161,7 +161,7 @@ impl Recording {
         printer.print_wrote(what, result, self.muxer.writer.written);
     }
 
-    // A frame with its block of sound.
+    // Writes a frame with its block of sound.
     fn write_pair(&mut self, printer: &mut Printer<impl Write + Drop>, frame: &[u8], block: &[u8])
         ensures { WriterLeft (pair_of self.old.muxer.writer self.old.buf frame.now block.now) self.new.muxer.writer self.new.buf }
     {
@@ -169,7 +169,7 @@ impl Recording {
         self.write_packet(printer, b"sound", block, 1);
     }
 
-    // Two frames, each with a block of sound: of 2 samples, and of 3. A packet of no stream is refused.
+    // Writes two frames, each with a block of sound: of 2 samples, and of 3. A packet of no stream is refused.
     fn write_packets(&mut self, printer: &mut Printer<impl Write + Drop>)
         ensures { WriterLeft (packets_of self.old.muxer.writer self.old.buf) self.new.muxer.writer self.new.buf }
     {
@@ -178,7 +178,7 @@ impl Recording {
         self.write_packet(printer, b"stream 2", b"none", 2);
     }
 
-    // The trailer.
+    // Writes the trailer, and prints what came of it.
     fn write_trailer(&mut self, printer: &mut Printer<impl Write + Drop>)
         ensures { WriterLeft (trailer_call self.old.muxer.writer self.old.buf) self.new.muxer.writer self.new.buf }
     {
