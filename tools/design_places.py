@@ -29,7 +29,7 @@ for path in files:
         if len(variants) <= 3 and held and (len(held) < len(variants) or m.group(1).endswith("Result")):
             note(1, path, line_of(text, m.start()), "enum %s: %s" % (m.group(1), ", ".join(v for v, _ in variants)))
     for m in re.finditer(r"^\s*(?:pub )?const ([A-Z_]+): (u8|u16|u32|u64|usize) = (\d+);", text, re.M):
-        if int(m.group(3)) <= 16:
+        if int(m.group(3)) <= 16 and not re.search(r"LEN|ROOM|RECORDS|WIDTH|_AT$", m.group(1)):
             note(1, path, line_of(text, m.start()), "number %s = %s" % (m.group(1), m.group(3)))
     for m in re.finditer(r"^\s*(while|loop)\b.*$", text, re.M):
         note(3, path, line_of(text, m.start()), m.group(0).strip())
@@ -46,9 +46,13 @@ for path, line, name, head, body in functions:
     plain = re.sub(r"_(u16|u32|u64|\d+)\b", "_N", re.sub(r"\b\d\w*\b", "N", plain))
     if body.count("\n") > 1 or "_u" in name or re.search(r"_\d+$", name):
         twins[re.sub(r"\s+", " ", plain)].append((path, line, name))
-    for clause in re.findall(r"requires(?: \w+)? \{ (.*?) \}", head):
+    for kind, clause in re.findall(r"(requires|ensures)(?: \w+)? \{ (.*?) \}", head):
         for fact in clause.split(" × "):
-            requires[re.sub(r"\.(now|old)\b", "", fact)].append((path, line, name))
+            predicate = re.fullmatch(r"([A-Z]\w*) [\w.]+", fact)
+            if predicate:
+                requires[predicate.group(1) + " .."].append((path, line, name))
+            elif kind == "requires":
+                requires[re.sub(r"\.(now|old)\b", "", fact)].append((path, line, name))
     parameters = re.search(r"\((.*?)\)", head, re.S)
     names = re.findall(r"(\w+):", parameters.group(1)) if parameters else []
     for i in range(len(names)):
@@ -74,9 +78,9 @@ for found in {tuple(f) for f in twins.values()}:
         for path, line, name in found:
             note(2, path, line, "%s, as %s" % (name, ", ".join(n for _, _, n in found if n != name) or "its namesakes"))
 for fact, found in sorted(requires.items()):
-    if len(found) > 2:
-        for path, line, name in found:
-            note(5, path, line, "%s: requires %s" % (name, fact))
+    if len({(path, line) for path, line, _ in found}) > 2:
+        for path, line, name in sorted(set(found)):
+            note(5, path, line, "%s: %s" % (name, fact))
 for pair, found in sorted(together.items()):
     crates = collections.Counter(os.path.relpath(p, root).split("/")[1] for p, _, _ in found)
     for crate, n in crates.items():
