@@ -133,12 +133,12 @@ impl<W: Write + Drop> Printer<W> {
 
 // The recording as far as it is written: the writer, and the room that it writes to.
 #[derive(Drop)]
-struct Recording {
+struct Recording<const N: usize> {
     muxer: AmvMuxer,
-    buf: [u8; ROOM],
+    buf: [u8; N],
 }
 
-impl Recording {
+impl<const N: usize> Recording<N> {
     // Writes the header, and prints what came of it.
     fn write_header(&mut self, printer: &mut Printer<impl Write + Drop>)
         ensures { WriterLeft (header_call self.old.muxer.writer self.old.buf) self.new.muxer.writer self.new.buf }
@@ -195,8 +195,11 @@ impl Recording {
 }
 
 // The whole recording, written to room that is given.
-fn write_recording(printer: &mut Printer<impl Write + Drop>, buf: [u8; ROOM]) -> Recording
-    ensures { WriterLeft (recording_of buf) result.muxer.writer result.buf }
+fn write_recording<const N: usize>(
+    printer: &mut Printer<impl Write + Drop>,
+    buf: [u8; N],
+) -> Recording<N>
+    ensures { WriterLeft (recording_of buf.entry) result.muxer.writer result.buf }
 {
     let muxer = AmvMuxer::new(Settings {
         width: 8,
@@ -264,7 +267,7 @@ fn main(rt: HostRuntime) -> io::Result<()> {
         out: rt.stdout(),
         outcome: Ok(()),
     };
-    let recording = write_recording(&mut printer, [0; ROOM]);
+    let recording = write_recording(&mut printer, [0u8; ROOM]);
     play_recording(&mut printer, recording.file());
     printer.outcome
 }

@@ -32,6 +32,7 @@ impl fmt::Display for RowsError {
 
 impl Error for RowsError {}
 
+// Whether every slice beside the first is of its length.
 fn one_length(count: usize, others: &[usize]) -> bool
     ensures { result ≡ one_length count others.now }
 {
