@@ -1,14 +1,14 @@
--- A record written is a record read. Assumes nothing.
+-- A record written is a record read; and the records of a table from one on are that one and those after it. Assumes nothing.
 use mathlib.Core.Path.{◌≡◌, refl, sym, ap, ◌∙◌}
 use mathlib.Core.List.{List, [], ◌∷◌, ◌++◌}
-use Prim.Native.Nat.{ℕ, ◌+◌, ◌*◌, ◌^◌, ◌≤◌, ◌<◌}
+use Prim.Native.Nat.{ℕ, zero, suc, ◌+◌, ◌-◌, ◌*◌, ◌/◌, ◌^◌, ◌≤◌, ◌<◌}
 use native.Mathlib.Nat.{add-zero}
 use native.Mathlib.Omega.{arith}
 use lib.ListN.{length, take, drop, length-append}
 use Rattle.fields.specs.Le.{le, le_bytes, put, put_le}
 use Rattle.fields.proofs.Laws.{put-put, le-append-right, le-le_bytes}
-use Rattle.chunk_index.specs.Entry.{entry_len, entry_bytes, table_bytes, entry_at}
-use Rattle.chunk_index.specs.Steps.{Small}
+use Rattle.chunk_index.specs.Entry.{entry_len, entry_bytes, table_bytes, entry_at, entries_from, entries_of}
+use Rattle.chunk_index.specs.Steps.{Small, entries_on}
 use Rattle.chunk_index.specs.declared.entry.ChunkIndexEntry.{ChunkIndexEntry}
 
 -- five stores, one after another, write the record
@@ -63,3 +63,45 @@ entry_back xs ys e t s n =
       tag = a i;
       position = record { cursor = b i; frames = record { 0 = c i }; samples = record { 0 = f i }; blocks = record { 0 = d i } };
     }
+
+-- ---- the records of a table
+
+pub length-entries : (n : ℕ) (table : List ℕ) (at : ℕ) → length (entries_from n table at) ≡ n
+unfolding entries_from
+length-entries zero table at = refl
+length-entries (suc n) table at = ap suc (length-entries n table (at + entry_len))
+
+module _ (table : List ℕ) where
+  -- all of them at first
+  pub entries_all : entries_on table 0 ≡ entries_of table
+  entries_all =
+      let k : length table / entry_len - 0 ≡ length table / entry_len = omega arith in
+      ap (λ (n : ℕ). entries_from n table 0) k
+
+  pub entries_many : length (entries_on table 0) ≡ length table / entry_len
+  entries_many = length-entries (length table / entry_len - 0) table 0 ∙ omega arith
+
+  module _ (number : ℕ) where
+    -- none past the last one
+    pub entries_none : length table / entry_len ≤ number → entries_on table number ≡ []
+    unfolding entries_from
+    entries_none h =
+        let k : length table / entry_len - number ≡ 0 = omega arith in
+        rw k
+
+    -- else the one of the number, and those after it, which are one fewer
+    pub entries_first : number < length table / entry_len → {e : ChunkIndexEntry} → e ≡ entry_at table (number * entry_len)
+        → entries_on table number ≡ e ∷ entries_on table (number + 1)
+    unfolding entries_from
+    entries_first h read =
+        let k : length table / entry_len - number ≡ suc (length table / entry_len - (number + 1)) = omega arith in
+        let next : (number + 1) * entry_len ≡ number * entry_len + entry_len = omega arith in
+        rw (read, k, next) refl
+
+    pub entries_fewer : number < length table / entry_len → length (entries_on table (number + 1)) < length (entries_on table number)
+    entries_fewer h =
+        omega (
+          arith,
+          length-entries (length table / entry_len - number) table (number * entry_len),
+          length-entries (length table / entry_len - (number + 1)) table ((number + 1) * entry_len),
+        )

@@ -10,7 +10,7 @@ ghost use Rattle.seek.specs.Seek.{seek_questions, stamp_of, reaches, find, beyon
 ghost use Rattle.seek.specs.Seek.{moved_to, landed, said_seek_outcome, seek_of};
 ghost use Rattle.seek.specs.Steps.{least};
 
-use chunk_index::entry::ChunkIndexEntry;
+use chunk_index::entry::{ChunkIndexEntry, Entries};
 use demuxer::position::{BlockCount, FrameStamp, Position};
 use demuxer::walker::Walker;
 use error::AmvError;
@@ -64,18 +64,14 @@ fn reaches_entry(stream: u32, request: u64, e: ChunkIndexEntry) -> bool
 }
 
 // The first record of a stream that reaches a request.
+#[tactic(auto, using(crate::proofs::Records::search_end))]
 fn find_entry(table: &[u8], stream: u32, request: u64) -> Option<Position>
     ensures { result ≡ find stream (pos request) (entries_of table.now) }
 {
-    let mut at: usize = 0;
-    let mut left = table.len();
-    while ChunkIndexEntry::LEN <= left {
-        left -= ChunkIndexEntry::LEN;
-        let e = ChunkIndexEntry::read(table, at);
+    for e in Entries::of(table) {
         if reaches_entry(stream, request, e) {
             return Some(e.position);
         }
-        at += ChunkIndexEntry::LEN;
     }
     None
 }

@@ -4,7 +4,7 @@ use mathlib.Core.Path.{◌≡◌, refl, sym, ap, ◌∙◌}
 use Rattle.std.proofs.Common.{Result, Ok, Err}
 use mathlib.Core.Bool.{Bool, true, false, ◌||◌, and-false, and-true}
 use mathlib.Core.List.{List, [], ◌∷◌}
-use Prim.Native.Nat.{ℕ, zero, suc, ◌+◌, ◌-◌, ◌/◌, ◌≤◌, ◌<◌, max}
+use Prim.Native.Nat.{ℕ, zero, suc, ◌+◌, ◌-◌, ◌*◌, ◌/◌, ◌≤◌, ◌<◌, max}
 use native.Mathlib.Omega.{arith}
 use borrow.Author.Tests.{lt-ltb, le-ltb}
 use lib.Dec.{eqb}
@@ -78,16 +78,6 @@ module _ (table : List ℕ) (at left : ℕ) where
       each-passed a =
           rw (read) (ask-passed (test (entry_at table at)) number at _ (rw (entries_on h) at a))
 
-    -- a turn of the pass that keeps the most samples
-    pub pass_on : (most : ℕ) → good_entry e ≡ true
-        → pass_over at most (entries_from (left / entry_len) table at)
-        ≡ pass_over (at + entry_len) (max most e.position.samples.0) (entries_from ((left - entry_len) / entry_len) table (at + entry_len))
-    unfolding ask_each most_samples
-    pass_on most g = rw (entries_on h, ap good_entry (sym read) ∙ g, read)
-
-    pub pass_no : (most : ℕ) → good_entry e ≡ false → pass_over at most (entries_from (left / entry_len) table at) ≡ refused (numbered 43 at)
-    pass_no most g = rw (each-no good_entry 43 g)
-
 pub length-entries : (n : ℕ) (table : List ℕ) (at : ℕ) → length (entries_from n table at) ≡ n
 unfolding entries_from
 length-entries zero table at = refl
@@ -131,3 +121,37 @@ module _ (table : List ℕ) {r : Result ℕ AmvError} (s : said r ≡ and_then (
       go q (accepted u) (accepted v) h = never h
       go q (accepted u) (refused r) h = ap asked h
       go q (refused r) y h = ap asked h
+
+-- ---- the pass that keeps the most samples
+
+-- what its loop keeps of all records: so many are behind it, and the pass over those that are left, from there on, is the pass over all
+pub record Passing (number most : ℕ) (left es : List ChunkIndexEntry) : Type 0 where
+  pub many : number + length left ≡ length es
+  pub rest : pass_over (number * entry_len) most left ≡ pass_over 0 0 es
+
+pub passing_start : {number : ℕ} {left es : List ChunkIndexEntry} → number ≡ 0 → left ≡ es → Passing number 0 left es
+passing_start {number} {left} {es} n e =
+    record {
+      many = omega (arith, n, ap length e);
+      rest = rw (n) (ap (pass_over 0 0) e);
+    }
+
+module _ {number most : ℕ} {left es : List ChunkIndexEntry} (k : Passing number most left es) where
+  pub passing_on : {e : ChunkIndexEntry} {later : List ChunkIndexEntry} {next more : ℕ} → left ≡ e ∷ later → good_entry e ≡ true → next ≡ number + 1
+      → more ≡ max most e.position.samples.0 → Passing next more later es
+  unfolding ask_each most_samples
+  passing_on {e} {later} {next} {more} is g n m =
+      let offset : next * entry_len ≡ number * entry_len + entry_len = omega (arith, n) in
+      record {
+        many = omega (arith, k.many, ap length is, n);
+        rest = rw (offset, m) (rw (g) at (ap (pass_over (number * entry_len) most) (sym is) ∙ k.rest));
+      }
+
+  pub passing_no : {e : ChunkIndexEntry} {later : List ChunkIndexEntry} {at : ℕ} → left ≡ e ∷ later → good_entry e ≡ false → at ≡ number
+      → refused (numbered 43 (at * entry_len)) ≡ pass_over 0 0 es
+  unfolding ask_each
+  passing_no {e} {later} {at} is g n = rw n (rw g at (ap (pass_over (number * entry_len) most) (sym is) ∙ k.rest))
+
+  pub passing_end : left ≡ [] → accepted most ≡ pass_over 0 0 es
+  unfolding ask_each most_samples
+  passing_end is = rw is at k.rest

@@ -1,9 +1,6 @@
 -- Steps on the way: what functions below the calls promise each other. Nothing here need be believed. Assumes nothing.
 use Rattle.std.specs.Prelude.{ℕ, max, List, [], ◌∷◌}
-use Rattle.std.specs.Prelude.{Result, Ok, Err}
-use Rattle.error.specs.declared.AmvError.{AmvError}
-use Rattle.error.specs.Answer.{Answer, accepted, refused, and_then}
-use Rattle.error.specs.Refusal.{refusal_of}
+use Rattle.error.specs.Answer.{Answer, accepted, and_then}
 use Rattle.chunk_index.specs.declared.entry.ChunkIndexEntry.{ChunkIndexEntry}
 use Rattle.table.specs.Table.{ask_each, good_entry}
 

@@ -8,7 +8,7 @@ ghost use Rattle.chunk_index.specs.Entry.{entries_of};
 ghost use Rattle.table.specs.Table.{good_entry, whole_records};
 ghost use Rattle.table.specs.Steps.{pass_over};
 
-use chunk_index::entry::ChunkIndexEntry;
+use chunk_index::entry::{ChunkIndexEntry, Entries};
 use error::AmvError;
 
 // Refuses with 41 a table that is no whole number of records.
@@ -31,20 +31,16 @@ fn good_entry(e: ChunkIndexEntry) -> bool
 
 // Refuses with 43 the first record of another tag or too many samples, at its start. The one pass answers the most samples too: a caller
 // with a limit below 2^62 then need not pass over the table again.
+#[tactic(auto, using(crate::proofs::Records::passing_start, crate::proofs::Records::passing_on, crate::proofs::Records::passing_end))]
 fn good_entries(table: &[u8]) -> Result<u64, AmvError>
     ensures { said result ≡ pass_over 0 0 (entries_of table.now) }
 {
-    let mut at: usize = 0;
-    let mut left = table.len();
     let mut most: u64 = 0;
-    while ChunkIndexEntry::LEN <= left {
-        left -= ChunkIndexEntry::LEN;
-        let e = ChunkIndexEntry::read(table, at);
+    for (number, e) in Entries::of(table).enumerate() {
         if !good_entry(e) {
-            return Err(AmvError::BadRecord(at as u64));
+            return Err(AmvError::BadRecord((number * ChunkIndexEntry::LEN) as u64));
         }
         most = most.max(e.position.samples.0);
-        at += ChunkIndexEntry::LEN;
     }
     Ok(most)
 }
