@@ -1,10 +1,10 @@
 -- A line of the page and a turn of the loops: how long it is, when the samples are narrow, and that lines one after another make the page;
 -- and how its questions can end.
 -- Assumes nothing.
-use mathlib.Core.Path.{◌≡◌, refl, sym}
+use mathlib.Core.Path.{◌≡◌, refl, sym, ap, subst}
 use mathlib.Core.Bool.{Bool, true, false}
-use mathlib.Core.List.{List, ◌++◌}
-use Prim.Native.Nat.{ℕ, ◌+◌, ◌*◌, ◌≤◌, ◌<◌}
+use mathlib.Core.List.{List, [], ◌∷◌, ◌++◌}
+use Prim.Native.Nat.{ℕ, zero, suc, ◌+◌, ◌*◌, ◌/◌, ◌≤◌, ◌<◌}
 use native.Mathlib.Decide.{dec_le}
 use native.Mathlib.Omega.{arith}
 use borrow.Author.Tests.{le-leb, lt-leb, leb-true, leb-false}
@@ -12,18 +12,21 @@ use lib.Dec.{leb, eqb}
 use lib.ListN.{length, length-append}
 use Rattle.error.specs.Answer.{Answer, accepted, refused, numbered, ask, and_then}
 use Rattle.error.specs.declared.Refusal.{Refusal}
-use Rattle.error.proofs.Answers.{never, clash}
+use Rattle.error.proofs.Answers.{never, clash, ask-passed}
 use Rattle.fields.specs.Le.{Bytes, put}
 use Rattle.fields.proofs.Laws.{le-lt}
 use Rattle.chunk.specs.Chunk.{video_tag}
-use Rattle.chunk_index.specs.Entry.{entry_at, entries_of}
+use Rattle.chunk_index.specs.Entry.{entry_len, entry_at, entries_from, entries_of}
 use Rattle.chunk_index.specs.declared.entry.ChunkIndexEntry.{ChunkIndexEntry}
 use Rattle.table.specs.Table.{ask_each, table_questions}
 use Rattle.table.proofs.Records.{entry-small}
 use Rattle.text.specs.Text.{decimal, kind, right}
 use Rattle.text.proofs.Digits.{decimal_fit, decimal_many}
-use Rattle.text.proofs.Laws.{length-right}
+use Rattle.text.proofs.Laws.{join, puts_nothing, length-right}
+use Rattle.text.specs.Puts.{Puts}
+use Rattle.text.specs.declared.Text.{Text}
 use Rattle.page.specs.Page.{columns, narrow_samples, page_line, page_lines, page_questions, print_of}
+use Rattle.page.specs.Sentences.{Each}
 use Rattle.page.specs.Steps.{Fits}
 
 -- ---- 18 digits
@@ -47,6 +50,52 @@ entry-fits table at b n =
             | no h ↦ omega arith
           ];
     }
+
+-- so all of them do that are read from bytes and have passed it
+all_fit : (n : ℕ) (table : List ℕ) (at place : ℕ) → Bytes table → ask_each narrow_samples 70 place (entries_from n table at) ≡ accepted tt
+    → Each Fits (entries_from n table at)
+unfolding ask_each entries_from
+all_fit zero table at place b a = tt
+all_fit (suc n) table at place b a =
+    let p = ask-passed (narrow_samples (entry_at table at)) 70 place (ask_each narrow_samples 70 (place + entry_len) (entries_from n table (at + entry_len))) a in
+    (entry-fits table at b p.0, all_fit n table (at + entry_len) (place + entry_len) b p.1)
+
+-- ---- the loop that puts the lines
+
+-- what it keeps: the records that are left fit their lines, for which there is room, and whoever puts those has put all
+pub record Putting (first now : Text) (left es : List ChunkIndexEntry) : Type 0 where
+  pub fitting : Each Fits left
+  pub room : now.len + columns * length left ≤ length now.buffer.now
+  pub all : (last : Text) → Puts now (page_lines left) last → Puts first (page_lines es) last
+
+pub putting_start : {first : Text} (table : List ℕ) {left : List ChunkIndexEntry} → Bytes table
+    → first.len + columns * length (entries_of table) ≤ length first.buffer.now → ask_each narrow_samples 70 0 (entries_of table) ≡ accepted tt
+    → left ≡ entries_of table → Putting first first left (entries_of table)
+putting_start {first} table {left} b room narrow is =
+    rw is (record { fitting = all_fit (length table / entry_len) table 0 0 b narrow; room = room; all = λ last p. p })
+
+module _ {first now : Text} {left es : List ChunkIndexEntry} (k : Putting first now left es) where
+  module _ {e : ChunkIndexEntry} {later : List ChunkIndexEntry} (is : left ≡ e ∷ later) where
+    pub putting_fits : Fits e
+    putting_fits = (subst (Each Fits) is k.fitting).0
+
+    pub putting_room : now.len + columns ≤ length now.buffer.now
+    putting_room = omega (arith, k.room, ap length is)
+
+    pub putting_on : {next : Text} → Puts now (page_line e) next → next.len ≡ now.len + columns → Putting first next later es
+    unfolding page_lines
+    putting_on {next} put n =
+        record {
+          fitting = (subst (Each Fits) is k.fitting).1;
+          room = omega (arith, k.room, ap length is, put.same_size, n);
+          all = λ last p. k.all last (subst (λ (l : List ChunkIndexEntry). Puts now (page_lines l) last) (sym is) (join put p));
+        }
+
+  pub putting_end : left ≡ [] → Puts first (page_lines es) now
+  unfolding page_lines
+  putting_end is =
+      let here : now.len ≤ length now.buffer.now = omega (arith, k.room) in
+      k.all now (subst (λ (l : List ChunkIndexEntry). Puts now (page_lines l) now) (sym is) (puts_nothing here))
 
 -- ---- a line
 

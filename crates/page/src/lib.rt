@@ -11,7 +11,7 @@ ghost use Rattle.table.specs.Steps.{most_samples};
 ghost use Rattle.page.specs.Page.{columns, narrow_samples, page_line, page_lines, page_questions, print_of};
 ghost use Rattle.page.specs.Steps.{Fits};
 
-use chunk_index::entry::ChunkIndexEntry;
+use chunk_index::entry::{ChunkIndexEntry, Entries};
 use error::AmvError;
 use table::ask_table;
 use text::Text;
@@ -23,19 +23,14 @@ pub const COLUMNS: usize = 40;
 const SAMPLES_LIMIT: u64 = 1_000_000_000_000_000_000;
 
 // Refuses with 70 the first record whose samples need more than 18 digits, at its start.
+#[tactic(auto, using(table::proofs::Records::asking_start, table::proofs::Records::asking_end))]
 fn narrow_samples(table: &[u8]) -> Result<(), AmvError>
     ensures { said result ≡ ask_each narrow_samples 70 0 (entries_of table.now) }
 {
-    let mut at: usize = 0;
-    let mut left = table.len();
-    while ChunkIndexEntry::LEN <= left {
-        left -= ChunkIndexEntry::LEN;
-        let e = ChunkIndexEntry::read(table, at);
-        let position = e.position;
-        if SAMPLES_LIMIT <= position.samples.0 {
-            return Err(AmvError::SamplesTooWide(at as u64));
+    for (number, e) in Entries::of(table).enumerate() {
+        if SAMPLES_LIMIT <= e.position.samples.0 {
+            return Err(AmvError::SamplesTooWide((number * ChunkIndexEntry::LEN) as u64));
         }
-        at += ChunkIndexEntry::LEN;
     }
     Ok(())
 }
@@ -78,17 +73,14 @@ fn put_line(text: &mut Text, e: ChunkIndexEntry)
 }
 
 // Puts a line for each record, one after another.
+#[tactic(auto, using(crate::proofs::Lines::putting_fits, crate::proofs::Lines::putting_room, crate::proofs::Lines::putting_end))]
 fn put_lines(text: &mut Text, table: &[u8])
     requires table_in_bounds { text.old.len + columns * length (entries_of table.now) ≤ length text.old.buffer.now }
     requires table_value { ask_each narrow_samples 70 0 (entries_of table.now) ≡ accepted tt }
     ensures { Puts text.old (page_lines (entries_of table.now)) text.new }
 {
-    let mut at: usize = 0;
-    let mut left = table.len();
-    while ChunkIndexEntry::LEN <= left {
-        left -= ChunkIndexEntry::LEN;
-        put_line(text, ChunkIndexEntry::read(table, at));
-        at += ChunkIndexEntry::LEN;
+    for e in Entries::of(table) {
+        put_line(text, e);
     }
 }
 

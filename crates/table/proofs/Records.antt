@@ -1,10 +1,10 @@
--- The records of a table, one after another: what a turn of a loop takes off the bytes that are left, what a question of each becomes, and that
+-- The records of a table, one after another: what a loop keeps that asks a question of each, or passes over them for the most samples too, and that
 -- records of few enough samples pass a question about them. Assumes nothing.
 use mathlib.Core.Path.{◌≡◌, refl, sym, ap, ◌∙◌}
 use Rattle.std.proofs.Common.{Result, Ok, Err}
 use mathlib.Core.Bool.{Bool, true, false, ◌||◌, and-false, and-true}
 use mathlib.Core.List.{List, [], ◌∷◌}
-use Prim.Native.Nat.{ℕ, zero, suc, ◌+◌, ◌-◌, ◌*◌, ◌/◌, ◌≤◌, ◌<◌, max}
+use Prim.Native.Nat.{ℕ, ◌+◌, ◌*◌, ◌≤◌, ◌<◌, max}
 use native.Mathlib.Omega.{arith}
 use borrow.Author.Tests.{lt-ltb, le-ltb}
 use lib.Dec.{eqb}
@@ -15,10 +15,10 @@ use Rattle.error.specs.Answer.{Answer, accepted, refused, numbered, and_then}
 use Rattle.error.specs.Refusal.{refusal_of, said}
 use Rattle.error.specs.declared.AmvError.{AmvError}
 use Rattle.error.specs.declared.Refusal.{Refusal}
-use Rattle.error.proofs.Answers.{never, accepted-same, then-passed, ask-passed}
+use Rattle.error.proofs.Answers.{never, accepted-same, then-passed}
 use Rattle.chunk.specs.Chunk.{video_tag, audio_tag}
 use Rattle.demuxer.specs.Position.{count_limit}
-use Rattle.chunk_index.specs.Entry.{entry_len, entry_at, entries_from, entries_of}
+use Rattle.chunk_index.specs.Entry.{entry_len, entry_at, entries_of}
 use Rattle.chunk_index.specs.Steps.{Small}
 use Rattle.chunk_index.specs.declared.entry.ChunkIndexEntry.{ChunkIndexEntry}
 use Rattle.table.specs.Table.{ask_each, whole_records, good_entry, good_entries, table_questions}
@@ -44,44 +44,36 @@ entry-small table at b =
       blocks_small = omega (arith, le-lt 4 table (at + 12) b);
     }
 
-module _ (table : List ℕ) (at left : ℕ) where
-  -- the records of the bytes that are left, from an offset on
-  pub entries_on : entry_len ≤ left
-      → entries_from (left / entry_len) table at ≡ entry_at table at ∷ entries_from ((left - entry_len) / entry_len) table (at + entry_len)
-  unfolding entries_from
-  entries_on h =
-      let k : left / entry_len ≡ suc ((left - entry_len) / entry_len) = omega arith in
-      rw k
+-- ---- a question of each
 
-  pub entries_off : left < entry_len → entries_from (left / entry_len) table at ≡ []
-  unfolding entries_from
-  entries_off h =
-      let k : left / entry_len ≡ 0 = omega arith in
-      rw k
+-- what a loop keeps that asks one: so many records are behind it, and asking those that are left, from there on, is asking all
+pub record Asking (test : ChunkIndexEntry → Bool) (question number : ℕ) (left es : List ChunkIndexEntry) : Type 0 where
+  pub many : number + length left ≡ length es
+  pub rest : ask_each test question (number * entry_len) left ≡ ask_each test question 0 es
 
-  module _ (h : entry_len ≤ left) {e : ChunkIndexEntry} (read : e ≡ entry_at table at) where
-    module _ (test : ChunkIndexEntry → Bool) (number : ℕ) where
-      pub each_on : test e ≡ true
-          → ask_each test number at (entries_from (left / entry_len) table at)
-          ≡ ask_each test number (at + entry_len) (entries_from ((left - entry_len) / entry_len) table (at + entry_len))
-      unfolding ask_each
-      each_on g = rw (entries_on h, ap test (sym read) ∙ g)
+pub asking_start : (test : ChunkIndexEntry → Bool) (question : ℕ) {number : ℕ} {left es : List ChunkIndexEntry} → number ≡ 0 → left ≡ es
+    → Asking test question number left es
+asking_start test question n e = record { many = omega (arith, n, ap length e); rest = rw (n) (ap (ask_each test question 0) e) }
 
-      pub each-no : test e ≡ false → ask_each test number at (entries_from (left / entry_len) table at) ≡ refused (numbered number at)
-      unfolding ask_each
-      each-no g = rw (entries_on h, ap test (sym read) ∙ g)
+module _ {test : ChunkIndexEntry → Bool} {question number : ℕ} {left es : List ChunkIndexEntry} (k : Asking test question number left es) where
+  pub asking_on : {e : ChunkIndexEntry} {later : List ChunkIndexEntry} {next : ℕ} → left ≡ e ∷ later → test e ≡ true → next ≡ number + 1
+      → Asking test question next later es
+  unfolding ask_each
+  asking_on {e} {later} {next} is t n =
+      let offset : next * entry_len ≡ number * entry_len + entry_len = omega (arith, n) in
+      record {
+        many = omega (arith, k.many, ap length is, n);
+        rest = rw (offset) (rw (t) at (ap (ask_each test question (number * entry_len)) (sym is) ∙ k.rest));
+      }
 
-      -- and the other way: what has been accepted
-      pub each-passed : ask_each test number at (entries_from (left / entry_len) table at) ≡ accepted tt
-          → (test e ≡ true) × (ask_each test number (at + entry_len) (entries_from ((left - entry_len) / entry_len) table (at + entry_len)) ≡ accepted tt)
-      unfolding ask_each
-      each-passed a =
-          rw (read) (ask-passed (test (entry_at table at)) number at _ (rw (entries_on h) at a))
+  pub asking_no : {e : ChunkIndexEntry} {later : List ChunkIndexEntry} {at : ℕ} → left ≡ e ∷ later → test e ≡ false → at ≡ number
+      → refused (numbered question (at * entry_len)) ≡ ask_each test question 0 es
+  unfolding ask_each
+  asking_no {e} {later} {at} is t n = rw n (rw t at (ap (ask_each test question (number * entry_len)) (sym is) ∙ k.rest))
 
-pub length-entries : (n : ℕ) (table : List ℕ) (at : ℕ) → length (entries_from n table at) ≡ n
-unfolding entries_from
-length-entries zero table at = refl
-length-entries (suc n) table at = ap suc (length-entries n table (at + entry_len))
+  pub asking_end : left ≡ [] → accepted tt ≡ ask_each test question 0 es
+  unfolding ask_each
+  asking_end is = rw is at k.rest
 
 -- ---- few enough samples
 

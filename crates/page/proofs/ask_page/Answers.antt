@@ -12,7 +12,8 @@ use lib.ListN.{length}
 use Rattle.error.specs.Answer.{accepted, ask, and_then}
 use Rattle.chunk_index.specs.Entry.{entry_len, entries_of}
 use Rattle.table.specs.Table.{ask_each, table_questions}
-use Rattle.table.proofs.Records.{length-entries, table_ok, table_err}
+use Rattle.chunk_index.proofs.Entries.{length-entries}
+use Rattle.table.proofs.Records.{table_ok, table_err}
 use Rattle.page.specs.Page.{columns, narrow_samples, page_questions}
 use Rattle.page.proofs.ask_page.Goals as goal
 

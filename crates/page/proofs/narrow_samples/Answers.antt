@@ -1,32 +1,16 @@
--- `page::narrow_samples` meets its contract. The invariant of its loop: asking the records of the bytes that are left is asking all of them, and offset
--- and rest add up to the table's length. The measure is the rest; `each_on`, `each-no` and `entries_off` are a turn and its two ends.
+-- `page::narrow_samples` meets its contract. The invariant of its loop: asking the records that are left is asking all of them (`Asking`).
 -- Assumes nothing.
-use mathlib.Core.Path.{refl, sym, ◌∙◌}
 use native.Mathlib.Omega.{arith}
-use Rattle.table.specs.Table.{ask_each}
-use Rattle.table.proofs.Records.{entries_off, each_on, each-no}
-use Rattle.page.specs.Page.{narrow_samples}
+use Rattle.table.proofs.Records.{asking_on, asking_no}
 use Rattle.page.proofs.Lines.{narrow_below, narrow-above}
 use Rattle.page.proofs.narrow_samples.Goals as goal
 
-pub loop-left-init : goal.loop-left-init
-loop-left-init c = (omega arith, refl)
+pub returns-then-e-ge-SAMPLES_LIMIT : goal.returns-then-e-ge-SAMPLES_LIMIT
+returns-then-e-ge-SAMPLES_LIMIT c =
+    let s = c.in-Some.ensures.steps in
+    asking_no c.loop-number.invariant s.0 (narrow-above c.in-Some.e c.if-e-ge-SAMPLES_LIMIT.true (omega arith)) s.1
 
-pub returns-then-position-ge-SAMPLES_LIMIT : goal.returns-then-position-ge-SAMPLES_LIMIT
-returns-then-position-ge-SAMPLES_LIMIT c =
-    let l = c.loop-left in
-    let t = c.args.table.now in
-    let n = narrow-above c.read-e.result c.if-position-ge-SAMPLES_LIMIT.true (omega arith) in
-    sym (each-no t l.at l.left (omega arith) c.read-e.ensures narrow_samples 70 n) ∙ l.invariant.1
-
-pub loop-left-preserved : goal.loop-left-preserved
-loop-left-preserved c =
-    let l = c.loop-left in
-    let t = c.args.table.now in
-    let n = narrow_below c.read-e.result (omega arith) in
-    (omega arith, sym (each_on t l.at l.left (omega arith) c.read-e.ensures narrow_samples 70 n) ∙ l.invariant.1)
-
-pub returns : goal.returns
-unfolding ask_each
-returns c = let l = c.loop-left in
-    rw (entries_off c.args.table.now l.at l.left (omega arith)) at l.invariant.1
+pub loop-number-preserved : goal.loop-number-preserved
+loop-number-preserved c =
+    let s = c.in-Some.ensures.steps in
+    asking_on c.loop-number.invariant s.0 (narrow_below c.in-Some.e (omega arith)) s.2

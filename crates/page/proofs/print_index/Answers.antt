@@ -9,7 +9,7 @@ use lib.ListN.{length}
 use Rattle.error.proofs.Answers.{passed_on}
 use Rattle.error.specs.Answer.{accepted}
 use Rattle.chunk_index.specs.Entry.{entry_len}
-use Rattle.table.proofs.Records.{length-entries}
+use Rattle.chunk_index.proofs.Entries.{length-entries}
 use Rattle.page.specs.Page.{Printing}
 use Rattle.page.proofs.Lines.{questions_passed, print_refused, printed}
 use Rattle.page.proofs.print_index.Goals as goal
