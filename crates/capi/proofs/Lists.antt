@@ -10,7 +10,6 @@ use mathlib.Core.List.{List, [], Memᴰ}
 use native.Mathlib.Omega.{arith}
 use borrow.Author.Tests.{ne_eqb, leb-true}
 use lib.Dec.{leb, eqb}
-use lib.IntN.{ℤ}
 use lib.ListN.{length, take}
 use Rattle.fields.specs.Capped.{u32_max}
 use Rattle.error.specs.Answer.{Answer, accepted, refused, numbered, number_of, and_then}

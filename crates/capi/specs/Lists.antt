@@ -1,8 +1,7 @@
 -- Lists of calls through words, each of which gets the words that the last one left, and demand 3 of what they return and write.
 -- Assumes nothing.
 use Rattle.std.specs.Prelude.{◌≡◌, ℕ, ◌<◌, cond, List, [], ◌∷◌, eqb, ℤ, length, take}
-use Rattle.error.specs.Refusal.{said}
-use Rattle.std.specs.Prelude.{Option, Some, None}
+use Rattle.std.specs.Prelude.{Option}
 use Rattle.error.specs.Answer.{Answer, accepted, numbered, ask}
 use Rattle.fields.specs.Le.{Bytes}
 use Rattle.demuxer.specs.Packet.{Shown, packet_duration, shown_of}

@@ -1,23 +1,17 @@
 -- Steps on the way: what functions below the step of a register block promise it. Nothing here need be believed. Assumes nothing.
-use Rattle.std.specs.Prelude.{◌≡◌, ℕ, List, ◌∷◌, replicate, Option, Some, None}
+use Rattle.std.specs.Prelude.{◌≡◌, ℕ, List, ◌∷◌}
 use Rattle.std.specs.Int.{w64}
 use Rattle.std.proofs.Common.{to_z}
 use Rattle.error.specs.Answer.{accepted}
 use Rattle.demuxer.specs.Read.{read_of}
-use Rattle.demuxer.specs.declared.packet.Packet.{Packet}
 use Rattle.demuxer.specs.declared.walker.Walker.{Walker}
 use Rattle.recording.specs.Machine.{read_answer, seek_answer}
 use Rattle.registers.specs.Registers.{Performed, done_of, packet_of}
 use Rattle.registers.specs.Steps.{told_by}
 use Rattle.registers.specs.declared.Told.{Told}
 use Rattle.seek.specs.Seek.{seek_of}
-use Rattle.words.specs.Out.{packet_words, shown_words}
+use Rattle.words.specs.Out.{shown_words}
 use Rattle.words.specs.State.{walker_of, walker_words}
-
--- the packet that a read gave, or zeros for none
-abbrev pub given_words : Option Packet → List ℕ
-given_words (Some p) = packet_words p.stream p.start p.len p.stamp p.duration
-given_words None = replicate 6 0
 
 -- a command that was performed on the words of a walker: what is told of it, `out`, and the walker's words after it
 pub record DoneInWords (w : Walker) (p : Performed) (told : Told) (out wsAfter : List ℕ) : Type 0 where

@@ -18,11 +18,10 @@ ghost use Rattle.words.specs.Out.{OutSays, checked};
 ghost use Rattle.words.specs.State.{walker_of};
 ghost use Rattle.capi.specs.Calls.{single, counts_words, totals_words, summary_answer, check_answer, index_answer, page_answer, parse_answer, samples_answer};
 ghost use Rattle.capi.specs.Calls.{WalkerCall, next_answer, next_walker, seek_answer, seek_walker, StepCall, WriterCall};
-ghost use Rattle.capi.specs.Steps.{given_words, DoneInWords, Performs, read_performed, seek_performed};
+ghost use Rattle.capi.specs.Steps.{DoneInWords, Performs, read_performed, seek_performed};
 
 use chunk_index::index::build_chunk_index;
 use chunk_index::summary::{ChunkCounts, summary};
-use demuxer::packet::Packet;
 use demuxer::walker::{Read, Walker};
 use duration::AmvDuration;
 use error::AmvError;
@@ -33,7 +32,7 @@ use prelude::prelude::AmvPrelude;
 use registers::{Command, Told, command_in, signed, write_block};
 use seek::seek_to_via_index;
 use sound::decode_block;
-use words::out::{answer_out, packet_out, prelude_out, result_out};
+use words::out::{answer_out, packet_out, prelude_out, refusal_out, result_out};
 use words::walker::{at_position, mark_word, walker_of, walker_words};
 use words::writer::{at_counts, writer_of, writer_words};
 
@@ -152,13 +151,6 @@ pub fn amv_parse(file: &[u8], strict: bool, out: &mut [u64; 16]) -> u32
     answer_out(parsed(file, strict).map(prelude_out), out)
 }
 
-// The words of what a read gives: of its packet, or zeros for End.
-fn read_out(packet: Option<Packet>) -> [u64; 7]
-    ensures { result ≡ (0 ∷ given_words packet) }
-{
-    packet.map_or([0; 7], packet_out)
-}
-
 // The packet at the walker, or End, and the walker past it. Refuses with 1, 10, 32 and 31.
 pub fn amv_next_packet(file: &[u8], walker: &mut [u64; 7], out: &mut [u64; 7]) -> u32
     ensures { WalkerCall 7 (next_answer file.now) (next_walker file.now)
@@ -171,12 +163,24 @@ pub fn amv_next_packet(file: &[u8], walker: &mut [u64; 7], out: &mut [u64; 7]) -
         answer,
         walker: next,
     } = state.next_packet(file);
+    // Answered here and not by answer_out: reads are many, and it would be a call.
     match answer {
-        // Only the position is new, so four words are stored and not seven.
-        Ok(Some(_)) => *walker = at_position(*walker, next.position),
-        Ok(None) | Err(_) => *walker = walker_words(next),
+        Ok(Some(packet)) => {
+            // Only the position is new, so four words are stored and not seven.
+            *walker = at_position(*walker, next.position);
+            *out = packet_out(packet);
+            0
+        }
+        Ok(None) => {
+            *walker = walker_words(next);
+            *out = [0; 7];
+            0
+        }
+        Err(e) => {
+            *walker = walker_words(next);
+            refusal_out(e, out)
+        }
     }
-    answer_out(answer.map(read_out), out)
 }
 
 // A jump by the index: the walker at the first chunk of the stream whose stamp is the request or later. Refuses with 1, 42, 41, 43 and 32.
@@ -203,14 +207,15 @@ pub fn amv_seek_to_via_index(
 fn read_step(file: &[u8], walker: &mut [u64; 7], out: &mut [u64; 7]) -> Told
     ensures { Performs (read_performed file.now) walker.old result out.new walker.new }
 {
-    match amv_next_packet(file, walker, out) {
-        0 if out[1] == 0 => Told::Nothing,
-        0 => Told::Gave(out[5]),
-        number => {
-            *out = [0; 7];
-            Told::Refused(number as u8)
-        }
+    let number = amv_next_packet(file, walker, out);
+    if number != 0 {
+        *out = [0; 7];
+        return Told::Refused(number as u8);
     }
+    if out[1] == 0 {
+        return Told::Nothing;
+    }
+    Told::Gave(out[5])
 }
 
 // The seek of a step, by amv_seek_to_via_index: what the block is to tell of it, with 0 in each word of `out`. It refuses nothing: where the seek is
@@ -227,10 +232,11 @@ fn seek_step(
 {
     *out = [0; 7];
     let mut sought = [0; 2];
-    match amv_seek_to_via_index(table, walker, stream, signed(request), &mut sought) {
-        0 => Told::Went(sought[1]),
-        number => Told::Refused(number as u8),
+    let number = amv_seek_to_via_index(table, walker, stream, signed(request), &mut sought);
+    if number != 0 {
+        return Told::Refused(number as u8);
     }
+    Told::Went(sought[1])
 }
 
 // Performs the command of a step on a walker and its words, through the calls above, so that what a read or a seek does is the same code in a step.
@@ -276,7 +282,7 @@ pub fn amv_register_step(
     match command_in(block) {
         Err(e) => {
             *walker = walker_words(state);
-            answer_out(Err(e), out)
+            refusal_out(e, out)
         }
         Ok(command) => {
             let told = perform(file, table, state, walker, command, out);
@@ -320,7 +326,13 @@ pub fn amv_write_packet(
     // A packet moves two words; from the state all nine would be carried past the copy of the payload.
     *writer = at_counts(*writer, next.written, next.frames);
     // Answered here and not by result_out: packets are many, and the call alone would take a third of the time.
-    result_out(result, out)
+    match result {
+        Ok(()) => {
+            *out = [0];
+            0
+        }
+        Err(e) => refusal_out(e, out),
+    }
 }
 
 // Writes the trailer, and the run length into the prelude: the last call of a writer. Refuses with 1, 51, 55, 56 and 54.

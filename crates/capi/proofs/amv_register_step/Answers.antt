@@ -1,0 +1,25 @@
+-- `capi::amv_register_step` meets its contract. A step that is refused leaves all as it was (`step-refused`); else the command that is performed and the
+-- block that is written of it are the step's (`steps-done`).
+-- Assumes nothing.
+use Rattle.std.proofs.Common.{refl, sym}
+use Rattle.registers.proofs.Blocks.{block-whole}
+use Rattle.registers.proofs.Performs.{command-is, step-refused}
+use Rattle.capi.proofs.Laws.{steps, steps-done}
+use Rattle.capi.proofs.amv_register_step.Goals as goal
+
+pub write_block-requires : goal.write_block-requires
+write_block-requires c =
+    let a = c.args in
+    block-whole a.block.now (command-is a.file.now a.table.now c.in-Some.state a.block.now c.command_in.ensures c.in-Ok.is)
+
+pub returns-in-Err : goal.returns-in-Err
+returns-in-Err c =
+    let a = c.args in
+    steps a.file.now a.table.now a.walker.now a.block.now (sym c.in-Some.ensures)
+    (step-refused a.file.now a.table.now c.in-Some.state a.block.now c.command_in.ensures c.in-Err.is) refl c.walker_words.ensures c.refusal_out.ensures
+
+pub returns-in-Ok : goal.returns-in-Ok
+returns-in-Ok c =
+    let a = c.args in
+    steps-done a.file.now a.table.now a.walker.now a.block.now _ (sym c.in-Some.ensures)
+    (command-is a.file.now a.table.now c.in-Some.state a.block.now c.command_in.ensures c.in-Ok.is) c.perform-told.ensures c.write_block.ensures
