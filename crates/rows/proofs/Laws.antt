@@ -4,10 +4,11 @@ use Prim.Native.Nat.{ℕ, zero, suc, ◌+◌, ◌-◌, ◌*◌, ◌≤◌, ◌<�
 use native.Mathlib.Nat.{zero-mul, suc-mul, mul-le-mul_right}
 use mathlib.Core.List.{List, [], ◌∷◌, ◌++◌, append_assoc}
 use native.Mathlib.Omega.{arith}
-use lib.ListN.{length}
-use lib.Seq.{take_at, drop_at}
+use lib.ListN.{length, take, get_or, set}
+use lib.Seq.{take_at, drop_at, take-suc}
+use lib.Seq.{length-take-le}
 use Rattle.fields.specs.Le.{put}
-use Rattle.fields.proofs.Laws.{length-put, put-put, put-nothing}
+use Rattle.fields.proofs.Laws.{length-put, put_one, put-put, put-nothing}
 use Rattle.rows.specs.Rows.{calls_from, CallStep, rows_of, state_after, numbers, rows_in}
 
 -- ---- the run
@@ -93,3 +94,17 @@ unfolding put
 rows_back m width wide call n s before =
     ap (λ (k : ℕ). rows_in width k (put before 0 (numbers (rows_of m s (calls_from call 0 n))))) (sym (length-calls call 0 n))
     ∙ rows_read m width wide s (calls_from call 0 n) _
+
+-- ---- a row put number by number
+
+pub put_more : (xs : List ℕ) (at : ℕ) (row : List ℕ) (k : ℕ) → at + length row ≤ length xs → k < length row
+    → set (put xs at (take k row)) (at + k) (get_or row k 0) ≡ put xs at (take (k + 1) row)
+put_more xs at row k fits l =
+    let long : length (take k row) ≡ k = length-take-le k row (omega arith) in
+    let room : at + length (take k row) ≤ length xs = omega (arith, long) in
+    let len : length (put xs at (take k row)) ≡ length xs = length-put xs at (take k row) room in
+    let next : suc k ≡ k + 1 = omega arith in
+    put_one _ (at + k) _ (omega (arith, len))
+    ∙ ap (λ (n : ℕ). put (put xs at (take k row)) (at + n) (get_or row k 0 ∷ [])) (sym long)
+    ∙ put-put xs at (take k row) (get_or row k 0 ∷ []) room
+    ∙ ap (put xs at) (sym (take-suc row k 0 l) ∙ ap (λ (n : ℕ). take n row) next)

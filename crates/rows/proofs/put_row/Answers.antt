@@ -1,14 +1,20 @@
--- `rows::put_row` meets its contract: the part that is copied over has as many numbers as the row (`part_put`). Assumes nothing.
-use mathlib.Core.Path.{ap, ◌∙◌}
+-- `rows::put_row` meets its contract, by the invariant of its loop (Invariants). Assumes nothing.
+use mathlib.Core.Path.{sym, ap, ◌∙◌}
 use native.Mathlib.Omega.{arith}
-use Prim.Native.Nat.{◌*◌}
-use lib.ListN.{length}
-use Rattle.fields.specs.Le.{put}
-use Rattle.fields.proofs.Laws.{part_put}
+use Prim.Native.Nat.{ℕ, ◌+◌, ◌*◌}
+use mathlib.Core.List.{List}
+use lib.ListN.{get_or, set}
+use Rattle.fields.proofs.Laws.{put-nothing}
+use Rattle.rows.proofs.Laws.{put_more}
 use Rattle.rows.proofs.put_row.Goals as goal
 
-pub returns : goal.returns
-returns g c =
+pub loop-k-init : goal.loop-k-init
+loop-k-init g c = sym (put-nothing c.args.rows.now (c.args.i * g.row.N))
+
+pub loop-k-preserved : goal.loop-k-preserved
+loop-k-preserved g c =
     let a = c.args in
-    let copied = c.copy_from_slice.ensures.after in
-    part_put _ _ _ _ (omega (arith, ap length copied)) ∙ ap (put a.rows.now (a.i * g.row.N)) copied
+    let l = c.loop-k in
+    let at = a.i * g.row.N in
+    ap (λ (xs : List ℕ). set xs (at + l.k) (get_or a.row.now l.k 0)) l.invariant
+    ∙ put_more a.rows.now at a.row.now l.k (omega arith) (omega arith)
