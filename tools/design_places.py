@@ -26,7 +26,8 @@ for path in files:
     for m in re.finditer(r"^(?:pub )?enum (\w+)(?:<[^>]*>)? \{\n(.*?)^\}", text, re.S | re.M):
         variants = re.findall(r"^    (\w+)(\(|,|\{)", m.group(2), re.M)
         held = [v for v, kind in variants if kind == "("]
-        if len(variants) <= 3 and held and (len(held) < len(variants) or m.group(1).endswith("Result")):
+        names = {v for v, _ in variants}
+        if held and (m.group(1).endswith("Result") or (len(variants) == 2 and len(held) == 1) or names & {"Err", "None", "NoPacket"}):
             note(1, path, line_of(text, m.start()), "enum %s: %s" % (m.group(1), ", ".join(v for v, _ in variants)))
     for m in re.finditer(r"^\s*(?:pub )?const ([A-Z_]+): (u8|u16|u32|u64|usize) = (\d+);", text, re.M):
         if int(m.group(3)) <= 16 and not re.search(r"LEN|ROOM|RECORDS|WIDTH|_AT$", m.group(1)):
@@ -35,7 +36,7 @@ for path in files:
         note(3, path, line_of(text, m.start()), m.group(0).strip())
     for m in re.finditer(r"^( *)(?:pub )?(?:extern \"C\" )?fn (\w+)(.*?)^\1\{\n(.*?)^\1\}", text, re.S | re.M):
         functions.append((path, line_of(text, m.start()), m.group(2), m.group(3), m.group(4)))
-    for m in re.finditer(r"^\s*(?:if|\} else if) (\w+) [<>=!]+ (?:[A-Z]\w*::)?[A-Z_]+ \{", text, re.M):
+    for m in re.finditer(r"^\s*(?:if|\} else if) (\w+) [<>=]= (?:[A-Z]\w*::)?[A-Z_]+ \{", text, re.M):
         note(7, path, line_of(text, m.start()), m.group(0).strip())
 
 twins = collections.defaultdict(list)
@@ -58,13 +59,13 @@ for path, line, name, head, body in functions:
     for i in range(len(names)):
         for j in range(i + 1, len(names)):
             together[(names[i], names[j])].append((path, line, name))
-    for m in re.finditer(r"(\w+): &(?:'\w+ )?(?:mut )?\[\w+\],\s*(off|at|len|end|start): usize", head):
+    for m in re.finditer(r"(\w+): &(?:'\w+ )?(?:mut )?\[\w+\],\s*(off|len|end|count): usize", head):
         note(6, path, line, "%s: a slice and %s" % (name, m.group(2)))
     slices = [n for n in names if re.search(n + r": &\[(u8|u32|u64|i64)\]", head)]
     if len(slices) > 3:
         note(6, path, line, "%s: slices %s" % (name, ", ".join(slices)))
-    if re.fullmatch(r"equals|larger|least|min|max|saturating_mul|wide|signed|classify|\w+_of|from_\w+|to_\w+|\w+_word|mark_bit|tag|equal\w*", name) \
-            and re.search(r"\bas \w+|==|<|match|%", body) and body.count("\n") <= 16:
+    if re.fullmatch(r"equals|larger|least|min|max|saturating_mul|wide|signed|classify|tag|level_of|sample_of|function_of|trailer_of|mark_of|request_of|from_packed|to_packed|initial_\w+|\w+_word|mark_bit", name) \
+            and body.count("\n") <= 16:
         note(4, path, line, name)
 
 named = collections.defaultdict(list)

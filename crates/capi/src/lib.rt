@@ -36,7 +36,7 @@ use words::out::{answer_out, packet_out, prelude_out, refusal_out, result_out};
 use words::walker::{at_position, mark_word, walker_of, walker_words};
 use words::writer::{at_counts, writer_of, writer_words};
 
-// The number of a call whose state's words are not all in their fields' ranges.
+// The number of a call whose state's words are not all in their fields' ranges. A number: C gets numbers.
 const ILLEGAL_STATE: u32 = 1;
 
 // The answer of such a call, and zeros.

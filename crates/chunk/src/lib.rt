@@ -27,16 +27,15 @@ pub enum ChunkKind {
 }
 
 impl ChunkKind {
-    // The kind of a tag. Refuses nothing: an unknown tag is a kind of its own, which a caller may refuse.
+    // The kind of a tag. Refuses nothing: an unknown tag is a kind of its own, which a caller may refuse. No `From`: the name is the original's, and
+    // so is that of `tag`.
     pub fn classify(tag: u32) -> ChunkKind
         ensures { result ≡ kind_of tag }
     {
-        if tag == VIDEO_CHUNK_TAG {
-            ChunkKind::Video
-        } else if tag == AUDIO_CHUNK_TAG {
-            ChunkKind::Audio
-        } else {
-            ChunkKind::Other(tag)
+        match tag {
+            VIDEO_CHUNK_TAG => ChunkKind::Video,
+            AUDIO_CHUNK_TAG => ChunkKind::Audio,
+            _ => ChunkKind::Other(tag),
         }
     }
 

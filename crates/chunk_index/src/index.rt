@@ -33,6 +33,7 @@ fn count_records(file: &[u8]) -> Result<usize, AmvError>
 {
     let mut at: usize = Walker::START as usize;
     let mut count: usize = 0;
+    // A walk (see `step_at`).
     loop {
         match step_at(file, at) {
             Step::RanOut | Step::Trailer => return Ok(count),
@@ -56,6 +57,7 @@ fn write_records(file: &[u8], table: &mut [u8])
 {
     let mut position = Position::new();
     let mut to: usize = 0;
+    // A walk (see `step_at`).
     loop {
         let Step::Chunk(chunk) = step_at(file, position.cursor as usize) else {
             return;

@@ -48,6 +48,7 @@ fn count_chunks(file: &[u8]) -> Result<ChunkCounts, AmvError>
         frames: 0,
         blocks: 0,
     };
+    // A walk (see `step_at`).
     loop {
         match step_at(file, at) {
             Step::RanOut | Step::Trailer => return Ok(counts),

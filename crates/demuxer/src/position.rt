@@ -53,7 +53,8 @@ impl Position {
             && self.blocks.0 <= COUNT_LIMIT
     }
 
-    // The position past a frame of a length. Refuses nothing: this one is in range.
+    // The position past a frame of a length. Refuses nothing: this one is in range. The range is a clause and no type: a walker comes from C in words
+    // of any size, and one out of range has an answer (32).
     pub fn past_frame(self, size: u32) -> Position
         requires { InRange self }
         ensures { result ≡ past_frame self size }

@@ -25,7 +25,8 @@ impl AmvDuration {
     // The longest run length of a frame count, in seconds: 255 h 59 min 59 s.
     pub const MAX_SECONDS: u64 = 921599;
 
-    // The run length of a packed number; its fourth byte is not looked at. Refuses nothing.
+    // The run length of a packed number; its fourth byte is not looked at. Refuses nothing. No `From`: the name is the original's, and so is that of
+    // `to_packed`.
     pub fn from_packed(packed: u32) -> AmvDuration
         ensures { result ≡ unpacked_of packed }
     {

@@ -65,6 +65,7 @@ fn check_chunks(file: &[u8]) -> Result<Totals, AmvError>
 {
     let mut position = Position::new();
     let mut paired = true;
+    // A walk (see `step_at`).
     loop {
         let number = position.frames.0 + position.blocks.0;
         match step_at(file, position.cursor as usize) {

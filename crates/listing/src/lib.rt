@@ -34,6 +34,7 @@ fn put_chunk_lines(text: &mut Text, file: &[u8])
     ensures upper_bound { text.new.len + 119 ≤ room }
 {
     let mut position = Position::new();
+    // A walk (see `step_at`).
     while let Step::Chunk(chunk) = step_at(file, position.cursor as usize) {
         let kind = chunk.kind;
         let line = ChunkLine {

@@ -106,7 +106,7 @@ fn require_all_zero(file: &[u8], place: usize, len: usize) -> Result<(), AmvErro
     Ok(())
 }
 
-// The stretches that a device leaves zero.
+// The stretches that a device leaves zero. The length is a clause, here and below, and no array of 316 bytes: the definitions ask a whole file.
 #[tactic(auto, using(error::proofs::Answers::passed_on), unfolding(crate::specs::Prelude::zero_ranges))]
 fn require_zero_ranges(file: &[u8]) -> Result<(), AmvError>
     requires { prelude_len ≤ length file.now }

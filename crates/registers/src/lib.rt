@@ -14,7 +14,7 @@ use demuxer::walker::Walker;
 use error::AmvError;
 use seek::seek_to_via_index;
 
-// The layout of the block: where each register stands, and its bits.
+// The layout of the block: where each register stands, and its bits. They are numbers: the controller writes and reads bytes, as C does.
 #[derive(Clone, Copy, Debug, PartialEq, Eq)]
 pub struct Registers;
 
@@ -75,7 +75,7 @@ pub struct RegisterStep {
     pub walker: Walker,
 }
 
-// The call that a command makes: a seek with its stream, and with the bits of its request.
+// The call that a command makes: a seek with its stream, and with the bits of its request. To do nothing is a command too, by its number.
 #[derive(Clone, Copy, Debug, PartialEq, Eq)]
 pub enum Command {
     None,
@@ -228,6 +228,8 @@ fn status_of(told: Told, end: bool, cut: bool) -> u8
 {
     told_bits(told) + mark_bit(end, Registers::END) + mark_bit(cut, Registers::CUT)
 }
+
+// The block's length is a clause, here and below, and no array: C lends a slice of any length, and another than 16 has an answer (74).
 
 // The interrupts that are pending after a step: those that were and are not acknowledged, and the enabled bits of status that rise.
 fn pending_of(block: &[u8], status: u8) -> u8

@@ -1,4 +1,5 @@
-// The call of a case, and its answer to a writer. A function that prints fails where a write does.
+// The call of a case, and its answer to a writer. A function that prints fails where a write does. Writer and case stay two parameters: a struct of both
+// would be made once and taken apart in each function, since the writer is lent to be changed.
 ghost use Rattle.std.specs.Prelude.{◌≡◌, ◌/◌, min, length, take};
 ghost use Rattle.fields.specs.Le.{put};
 ghost use Rattle.chunk_index.specs.Index.{build_of};
