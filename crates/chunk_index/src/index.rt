@@ -1,7 +1,6 @@
 // Building the index.
 ghost use Rattle.std.specs.Prelude.{◌≡◌, ◌*◌, ◌≤◌, length};
 ghost use Rattle.error.specs.Refusal.{said};
-ghost use Rattle.fields.specs.File.{file_limit};
 ghost use Rattle.fields.specs.Le.{put};
 ghost use Rattle.demuxer.specs.Position.{start};
 ghost use Rattle.walk.specs.Walk.{file_walk};
@@ -14,6 +13,7 @@ use chunk::advance_total;
 use demuxer::position::Position;
 use demuxer::walker::Walker;
 use error::AmvError;
+use fields::file::File;
 use walk::{ChunkAt, Kind, Step, step_at};
 
 // Whether a chunk of the walk gets a record: a frame always, sound where min(8, length) bytes of its payload are there.
@@ -27,10 +27,10 @@ fn recorded(chunk: ChunkAt) -> bool
 }
 
 // Counts the records of the walk. It reads headers only.
-fn count_records(file: &[u8]) -> Result<usize, AmvError>
-    requires { length file.now ≤ file_limit }
+fn count_records(file: &File) -> Result<usize, AmvError>
     ensures { said result ≡ count_records file.now }
 {
+    let file = file.bytes();
     let mut at: usize = Walker::START as usize;
     let mut count: usize = 0;
     // A walk (see `step_at`).
@@ -50,18 +50,15 @@ fn count_records(file: &[u8]) -> Result<usize, AmvError>
 }
 
 // Writes the records of the walk, for which the table has room.
-fn write_records(file: &[u8], table: &mut [u8])
-    requires file_len_bound { length file.now ≤ file_limit }
-    requires file_in_bounds { entry_len * length (records start (file_walk file.now)) ≤ length table.old }
+fn write_records(file: &File, table: &mut [u8])
+    requires { entry_len * length (records start (file_walk file.now)) ≤ length table.old }
     ensures { table.new ≡ put table.old 0 (table_bytes (records start (file_walk file.now))) }
 {
+    let file = file.bytes();
     let mut position = Position::new();
     let mut to: usize = 0;
     // A walk (see `step_at`).
-    loop {
-        let Step::Chunk(chunk) = step_at(file, position.cursor as usize) else {
-            return;
-        };
+    while let Step::Chunk(chunk) = step_at(file, position.cursor as usize) {
         if !recorded(chunk) {
             return;
         }
@@ -81,13 +78,13 @@ pub fn build_chunk_index(file: &[u8], table: &mut [u8]) -> Result<usize, AmvErro
     ensures result_value { said result ≡ (build_of file.now table.old).answer }
     ensures table_after { table.new ≡ (build_of file.now table.old).table }
 {
-    if !fields::file::within_limit(file) {
+    let Some(file) = File::new(file) else {
         return Err(AmvError::FileTooLong);
-    }
-    let count = count_records(file)?;
+    };
+    let count = count_records(&file)?;
     if table.len() / ChunkIndexEntry::LEN < count {
         return Err(AmvError::TableTooShort);
     }
-    write_records(file, table);
+    write_records(&file, table);
     Ok(count)
 }

@@ -1,7 +1,6 @@
 // The summary: how many whole frames and blocks a file has, which are those that it plays.
-ghost use Rattle.std.specs.Prelude.{◌≡◌, ◌≤◌, length};
+ghost use Rattle.std.specs.Prelude.{◌≡◌, ◌≤◌};
 ghost use Rattle.error.specs.Refusal.{said};
-ghost use Rattle.fields.specs.File.{file_limit};
 ghost use Rattle.demuxer.specs.Position.{count_limit};
 ghost use Rattle.chunk_index.specs.Steps.{count_chunks};
 ghost use Rattle.chunk_index.specs.Summary.{counted, summary_of};
@@ -9,6 +8,7 @@ ghost use Rattle.chunk_index.specs.Summary.{counted, summary_of};
 use chunk::advance_total;
 use demuxer::walker::Walker;
 use error::AmvError;
+use fields::file::File;
 use walk::{Kind, Step, step_at};
 
 // Frames and blocks.
@@ -39,10 +39,10 @@ impl ChunkCounts {
 }
 
 // Counts the whole chunks of the walk. It reads headers only.
-fn count_chunks(file: &[u8]) -> Result<ChunkCounts, AmvError>
-    requires { length file.now ≤ file_limit }
+fn count_chunks(file: &File) -> Result<ChunkCounts, AmvError>
     ensures { said result ≡ count_chunks file.now }
 {
+    let file = file.bytes();
     let mut at: usize = Walker::START as usize;
     let mut counts = ChunkCounts {
         frames: 0,
@@ -71,8 +71,8 @@ fn count_chunks(file: &[u8]) -> Result<ChunkCounts, AmvError>
 pub fn summary(file: &[u8]) -> Result<ChunkCounts, AmvError>
     ensures { said result ≡ summary_of file.now }
 {
-    if !fields::file::within_limit(file) {
+    let Some(file) = File::new(file) else {
         return Err(AmvError::FileTooLong);
-    }
-    count_chunks(file)
+    };
+    count_chunks(&file)
 }

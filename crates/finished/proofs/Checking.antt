@@ -2,19 +2,16 @@
 use mathlib.Core.Path.{◌≡◌, refl, sym, ap, ap₂, ◌∙◌}
 use mathlib.Core.Bool.{Bool, true, false, ◌&&◌}
 use mathlib.Core.List.{List}
-use Prim.Native.Nat.{ℕ, suc, ◌+◌, ◌≤◌}
+use Prim.Native.Nat.{ℕ, suc, ◌+◌}
 use native.Mathlib.Numerals.{add-one}
-use borrow.Author.Tests.{leb-true, eq-eqb, ne_eqb}
-use lib.ListN.{length}
+use borrow.Author.Tests.{eq-eqb, ne_eqb}
 use Rattle.chunk.specs.Chunk.{kind_of}
 use Rattle.chunk.specs.Interleave.{interleave_at, interleave_from, even}
 use Rattle.error.specs.Answer.{Answer, accepted, refused, numbered, ask, and_then}
-use Rattle.error.proofs.Answers.{ask-passed, then-accepted}
-use Rattle.fields.specs.File.{file_limit, within_limit}
+use Rattle.fields.specs.File.{within_limit}
 use Rattle.demuxer.specs.Position.{start}
 use Rattle.demuxer.specs.declared.position.Position.{Position}
-use Rattle.prelude.specs.Prelude.{parse_of, validated_of, strict_of}
-use Rattle.prelude.specs.declared.prelude.AmvPrelude.{AmvPrelude}
+use Rattle.prelude.specs.Prelude.{parse_of, strict_of}
 use Rattle.walk.specs.Steps.{Walked, past_at}
 use Rattle.walk.specs.Walk.{kind_tag, Stop, Walk, stop, walk}
 use Rattle.walk.specs.declared.ChunkAt.{ChunkAt}
@@ -81,14 +78,7 @@ module _ {file : List ℕ} {p : Position} {paired : Bool} (k : Checking file p p
 
 -- ---- after the prelude
 
--- what the strict parse accepts is within the limit
-pub strict-within : (file : List ℕ) (p : AmvPrelude) → strict_of file ≡ accepted p → length file ≤ file_limit
-unfolding strict_of parse_of
-strict-within file p e =
-    let q = then-accepted (parse_of file) (λ x. validated_of x file) e in
-    leb-true (length file) file_limit (ask-passed (within_limit file) 10 0 _ q.1).0
-
--- the check by the answer of the strict parse
-pub check-after : (file : List ℕ) (x : Answer AmvPrelude) → strict_of file ≡ x → check_of file ≡ and_then x (λ _. check_chunks file)
-unfolding check_of
-check-after file x e = ap (λ (y : Answer AmvPrelude). and_then y (λ _. check_chunks file)) e
+-- the check of a file over the limit, which the strict parse asks first
+pub check_limit : (file : List ℕ) → within_limit file ≡ false → check_of file ≡ refused (numbered 10 0)
+unfolding check_of strict_of parse_of
+check_limit file e = rw e

@@ -1,10 +1,7 @@
 -- The check: a fold of the walk. Assumes nothing.
 use Rattle.std.specs.Prelude.{ℕ, Bool, true, false, List, [], ◌∷◌, eqb}
-use Rattle.std.specs.Prelude.{Result, Ok, Err}
-use Rattle.error.specs.declared.AmvError.{AmvError}
 use Rattle.chunk.specs.Interleave.{interleave}
 use Rattle.error.specs.Answer.{Answer, accepted, refused, numbered, ask, and_then}
-use Rattle.error.specs.Refusal.{refusal_of}
 use Rattle.demuxer.specs.Position.{start}
 use Rattle.demuxer.specs.declared.position.Position.{Position}
 use Rattle.prelude.specs.Prelude.{strict_of}

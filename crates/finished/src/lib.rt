@@ -5,13 +5,13 @@ ghost use Rattle.std.specs.Prelude.{◌≡◌, ◌&&◌, ◌≤◌, ◌+◌, ◌
 ghost use Rattle.error.specs.Refusal.{said};
 ghost use Rattle.chunk.specs.Chunk.{kind_of};
 ghost use Rattle.chunk.specs.Interleave.{interleave_at, even};
-ghost use Rattle.fields.specs.File.{file_limit};
 ghost use Rattle.walk.specs.Walk.{trailer};
 ghost use Rattle.finished.specs.Check.{passes, check_stop, check_chunks, check_of};
 
 use chunk::interleave::interleave_at;
 use demuxer::position::Position;
 use error::AmvError;
+use fields::file::File;
 use prelude::prelude::AmvPrelude;
 use walk::{Step, step_at};
 
@@ -59,10 +59,10 @@ fn check_trailer(file: &[u8], position: Position, paired: bool) -> Result<Totals
 }
 
 // The chunks, one after another, each with its whole payload.
-fn check_chunks(file: &[u8]) -> Result<Totals, AmvError>
-    requires { length file.now ≤ file_limit }
+fn check_chunks(file: &File) -> Result<Totals, AmvError>
     ensures { said result ≡ check_chunks file.now }
 {
+    let file = file.bytes();
     let mut position = Position::new();
     let mut paired = true;
     // A walk (see `step_at`).
@@ -89,6 +89,9 @@ fn check_chunks(file: &[u8]) -> Result<Totals, AmvError>
 pub fn check(file: &[u8]) -> Result<Totals, AmvError>
     ensures { said result ≡ check_of file.now }
 {
-    AmvPrelude::parse_strict(file)?;
-    check_chunks(file)
+    let Some(file) = File::new(file) else {
+        return Err(AmvError::FileTooLong);
+    };
+    AmvPrelude::parse_strict(file.bytes())?;
+    check_chunks(&file)
 }

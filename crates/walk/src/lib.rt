@@ -70,8 +70,8 @@ fn chunk_at(file: &[u8], at: usize, kind: Kind, size: u32) -> ChunkAt
     }
 }
 
-// One step: what stands at an offset of a file, for every offset. Who walks has a loop over it and no iterator of chunks: a step's three stops are
-// answered differently by each, and the next offset comes from the chunk, so none is counted.
+// One step: what stands at an offset of a file, for every offset. Its callers loop over it and no iterator gives them the chunks: the next offset
+// comes from the chunk that was read, and where a walk stops they answer each of the three cases, which an iterator would only end at.
 #[tactic(auto, using(crate::proofs::Walks::video_there, crate::proofs::Walks::audio_there), unfolding(crate::specs::Walk::step_at))]
 pub fn step_at(file: &[u8], at: usize) -> Step
     ensures { result ≡ step_at file.now at }
@@ -86,8 +86,8 @@ pub fn step_at(file: &[u8], at: usize) -> Step
 }
 
 impl ChunkAt {
-    // The position after the chunk at a position: by its length, be the payload there or not. The file's limit is a clause and no type: the calls are
-    // lent a file of any length, and one that is too long has an answer (10).
+    // The position after the chunk at a position: by its length, be the payload there or not. It takes bytes and no `File`, which would ask more
+    // of a caller whose own limit is lower.
     pub fn past(self, file: &[u8], position: Position) -> Position
         requires file_len_bound { length file.now ≤ file_limit }
         requires cursor_in_bounds { position.cursor + 8 ≤ length file.now }

@@ -1,8 +1,8 @@
--- `finished::check` meets its contract. What the strict parse accepts is within the limit, which `check_chunks` requires.
+-- `finished::check` meets its contract. The limit is asked once more by the strict parse, which is why a file over it is refused alike (`check_limit`).
 -- Assumes nothing.
 use Rattle.std.proofs.Common.{sym}
-use Rattle.finished.proofs.Checking.{strict-within}
+use Rattle.finished.proofs.Checking.{check_limit}
 use Rattle.finished.proofs.check.Goals as goal
 
-pub check_chunks-requires : goal.check_chunks-requires
-check_chunks-requires c = strict-within _ _ (sym c.in_ok-parse_strict.ensures)
+pub returns-in_default : goal.returns-in_default
+returns-in_default c = sym (check_limit c.args.file.now c.in_default.ensures)
