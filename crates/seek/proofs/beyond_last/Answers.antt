@@ -2,6 +2,7 @@
 -- its fields are small since they are read from bytes (`entry-small`).
 -- Assumes nothing.
 use mathlib.Core.Path.{sym, ap, ◌∙◌}
+use native.Mathlib.Omega.{arith}
 use Rattle.fields.specs.Le.{Bytes}
 use Rattle.chunk_index.specs.Entry.{entries_from}
 use Rattle.seek.specs.Seek.{beyond, past_last}
@@ -15,7 +16,7 @@ returns-then-count-eq0 c = rw c.if-count-eq0.true
 
 pub beyond_entry-requires : goal.beyond_entry-requires
 unfolding Bytes
-beyond_entry-requires c = rw c.read.ensures (entry-small _ _ (λ k. (c.shared_slice_known-1.given k).fits))
+beyond_entry-requires c = rw c.read.ensures (entry-small _ _ (λ k. omega (arith, c.type_inv.table k)))
 
 pub returns : goal.returns
 returns c =

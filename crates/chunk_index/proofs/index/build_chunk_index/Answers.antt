@@ -5,7 +5,6 @@ use mathlib.Core.Path.{sym, ap, ◌∙◌}
 use Rattle.chunk_index.specs.Steps.{count_records}
 use Rattle.error.proofs.Answers.{passed_on}
 use native.Mathlib.Omega.{arith}
-use borrow.Author.Tests.{leb-true}
 use Rattle.error.specs.Answer.{accepted}
 use Rattle.chunk_index.specs.Index.{Built}
 use Rattle.chunk_index.proofs.Building.{build_limit, build_refused, counted_all, build_short, build_room}

@@ -14,27 +14,23 @@ use Rattle.walk.proofs.Walked.{walked_range, walked_frame, count_small, walked_s
 use Rattle.walk.proofs.ChunkAt.past.Goals as goal
 
 pub past_frame-requires : goal.past_frame-requires
-past_frame-requires c = let s = c in walked_range s.args.position s.requires.walked (omega (arith, s.requires.file_len_bound, s.requires.cursor_in_bounds))
+past_frame-requires c = walked_range c.args.position c.requires.walked (omega (arith, c.requires.file_len_bound, c.requires.cursor_in_bounds))
 
 pub past_sound-requires : goal.past_sound-requires
-past_sound-requires c =
-    let s = c in
-    walked_range s.args.position s.requires.walked (omega (arith, s.requires.file_len_bound, s.requires.cursor_in_bounds))
+past_sound-requires c = walked_range c.args.position c.requires.walked (omega (arith, c.requires.file_len_bound, c.requires.cursor_in_bounds))
 
 pub returns-in-Frame : goal.returns-in-Frame
 returns-in-Frame c =
-    let s = c in
-    let a = s.args in
+    let a = c.args in
     let e = c.past_frame.ensures in
     let count = count_of (payload_at a.file.now a.position.cursor a.self.size) in (
       e ∙ sym (ap (λ (k : Kind). past_by a.position k a.self.size count) c.in-Frame.is),
-      rw e (walked_frame a.position s.requires.walked (omega (arith, s.requires.file_len_bound, s.requires.cursor_in_bounds)) a.self.size (omega arith)),
+      rw e (walked_frame a.position c.requires.walked (omega (arith, c.requires.file_len_bound, c.requires.cursor_in_bounds)) a.self.size (omega arith)),
     )
 
 pub returns-in-Sound : goal.returns-in-Sound
 returns-in-Sound c =
-    let s = c in
-    let a = s.args in
+    let a = c.args in
     let e = c.past_sound.ensures in
     let n = c.sample_count-count.ensures in
     let payload = payload_at a.file.now a.position.cursor a.self.size in
@@ -44,6 +40,6 @@ returns-in-Sound c =
           ∙ ap (λ (k : ℕ). past_sound a.position a.self.size k) n
           ∙ sym (ap (λ (k : Kind). past_by a.position k a.self.size (count_of payload)) c.in-Sound.is),
       rw (e, n)
-          (walked_sound a.position s.requires.walked (omega (arith, s.requires.file_len_bound, s.requires.cursor_in_bounds)) a.self.size (count_of payload) (omega arith)
+          (walked_sound a.position c.requires.walked (omega (arith, c.requires.file_len_bound, c.requires.cursor_in_bounds)) a.self.size (count_of payload) (omega arith)
           (count_small payload a.self.size l h)),
     )

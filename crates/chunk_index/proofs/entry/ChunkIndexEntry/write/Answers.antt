@@ -10,15 +10,9 @@ use Rattle.chunk_index.proofs.entry.ChunkIndexEntry.write.Goals as goal
 
 pub returns : goal.returns
 returns c =
-    let fifth = c in
-    let fourth = fifth in
-    let third = fourth in
-    let second = third in
-    let first = second in
-    let start = first in
-    let a = start.args in
-    let e = second.write_le-2.ensures ∙ ap (λ (l : List ℕ). put_le 4 l (a.at + 4) a.self.position.cursor) first.write_le.ensures in
-    let e = third.write_le-3.ensures ∙ ap (λ (l : List ℕ). put_le 4 l (a.at + 8) a.self.position.frames.0) e in
-    let e = fourth.write_le-4.ensures ∙ ap (λ (l : List ℕ). put_le 4 l (a.at + 12) a.self.position.blocks.0) e in
-    let e = fifth.write_le-5.ensures ∙ ap (λ (l : List ℕ). put_le 8 l (a.at + 16) a.self.position.samples.0) e in
-    e ∙ entry_stored a.table.now a.at a.self start.requires.entry_len_in_bounds
+    let a = c.args in
+    let e = c.write_le-2.ensures ∙ ap (λ (l : List ℕ). put_le 4 l (a.at + 4) a.self.position.cursor) c.write_le.ensures in
+    let e = c.write_le-3.ensures ∙ ap (λ (l : List ℕ). put_le 4 l (a.at + 8) a.self.position.frames.0) e in
+    let e = c.write_le-4.ensures ∙ ap (λ (l : List ℕ). put_le 4 l (a.at + 12) a.self.position.blocks.0) e in
+    let e = c.write_le-5.ensures ∙ ap (λ (l : List ℕ). put_le 8 l (a.at + 16) a.self.position.samples.0) e in
+    e ∙ entry_stored a.table.now a.at a.self c.requires.entry_len_in_bounds
