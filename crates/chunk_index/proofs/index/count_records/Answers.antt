@@ -31,12 +31,6 @@ returns-then-not-recorded c =
     headers_end l.invariant.headers l.count _ (step_means _ _ _ (sym c.in-Chunk.ensures)) r (counted-end l.invariant (step_means _ _ _ (sym c.in-Chunk.ensures)) r)
     ∙ ap count_records c.bytes-file.ensures.same
 
-pub overflow_add-count : goal.overflow_add-count
-overflow_add-count c = omega arith
-
-pub overflow_add-at : goal.overflow_add-at
-overflow_add-at c = omega arith
-
 pub loop-chunk-smaller : goal.loop-chunk-smaller
 loop-chunk-smaller c = omega (arith, (step_means _ _ _ (sym c.in-Chunk.ensures)).there)
 

@@ -33,9 +33,6 @@ returns c =
     of-file c.args.table.now c.bytes-file.ensures.same
     (write-end l.invariant (records-stop _ l.position (stopped _ _ _ (sym c.step_at.ensures) c.in_default.not-Chunk).1))
 
-pub shape_of-table-then-not-recorded : goal.shape_of-table-then-not-recorded
-shape_of-table-then-not-recorded c = c.loop-chunk.invariant.kept
-
 pub returns-then-not-recorded : goal.returns-then-not-recorded
 returns-then-not-recorded c =
     let l = c.loop-chunk in
@@ -54,12 +51,6 @@ past-position-requires c =
     let l = c.loop-chunk in
     let g = step_means _ _ _ (sym c.in-Chunk.ensures) in
     record { file_len_bound = c.bytes-file.ensures.within; cursor_in_bounds = g.there; walked = l.invariant.walked }
-
-pub overflow_add-to : goal.overflow_add-to
-overflow_add-to c =
-    let l = c.loop-chunk in
-    let r = sym c.recorded.ensures ∙ c.if-not-recorded.false in
-    omega (arith, write-room l.invariant (step_means _ _ _ (sym c.in-Chunk.ensures)) r, l.invariant.kept)
 
 pub loop-chunk-smaller : goal.loop-chunk-smaller
 loop-chunk-smaller c =

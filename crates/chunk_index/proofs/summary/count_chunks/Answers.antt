@@ -7,11 +7,8 @@ use Rattle.walk.specs.declared.Step.TheVariants as step
 use Rattle.walk.proofs.Walks.{step_means}
 use Rattle.chunk_index.proofs.Counting.{ended, headers_stop, headers_ended}
 use Rattle.chunk_index.proofs.Folds.{known-cut}
-use Rattle.chunk_index.proofs.Summing.{summing_start, summing_on, summed_stop, summed_cut}
+use Rattle.chunk_index.proofs.Summing.{summing_on, summed_stop, summed_cut}
 use Rattle.chunk_index.proofs.summary.count_chunks.Goals as goal
-
-pub loop-chunk-init : goal.loop-chunk-init
-loop-chunk-init c = summing_start _
 
 pub returns-in-RanOut : goal.returns-in-RanOut
 returns-in-RanOut c =
@@ -31,14 +28,6 @@ returns-then-chunk-gt0 c =
     let cut : 0 < c.in-Chunk.chunk.missing = omega (arith, c.if-chunk-gt0.true) in
     let g = step_means _ _ _ (sym c.in-Chunk.ensures) in
     rw (← c.bytes-file.ensures.same, ← l.invariant.headers.known, known-cut _ _ _ g cut, summed_cut l.invariant g cut)
-
-pub counted-counts-requires : goal.counted-counts-requires
-counted-counts-requires c =
-    let l = c.loop-chunk in
-    record { frames_le_count_limit = omega (arith, l.invariant.headers.chunks_le, l.invariant.headers.at-le); blocks_le_count_limit = omega (arith, l.invariant.headers.chunks_le, l.invariant.headers.at-le) }
-
-pub overflow_add-at : goal.overflow_add-at
-overflow_add-at c = let l = c.loop-chunk in omega (arith, l.invariant.headers.at-le)
 
 pub loop-chunk-smaller : goal.loop-chunk-smaller
 loop-chunk-smaller c = omega (arith, (step_means _ _ _ (sym c.in-Chunk.ensures)).there)
