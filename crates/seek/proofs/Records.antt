@@ -42,9 +42,9 @@ past-last (suc n) p table at =
     let k : at + suc n * entry_len ≡ at + entry_len + n * entry_len = omega arith in
     rw k (past-last n (beyond (entry_at table at)) table (at + entry_len))
 
-pub past-records : (p : Position) (table : List ℕ) → (length table / entry_len ≡ 0 → ⊥)
+pub past_records : (p : Position) (table : List ℕ) → (length table / entry_len ≡ 0 → ⊥)
     → past_last p (entries_of table) ≡ beyond (entry_at table ((length table / entry_len - 1) * entry_len))
-past-records p table h =
+past_records p table h =
     let n = length table / entry_len - 1 in
     let k : length table / entry_len ≡ suc n = omega arith in
     let z : 0 + n * entry_len ≡ n * entry_len = omega arith in

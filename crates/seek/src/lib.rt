@@ -99,6 +99,7 @@ fn beyond_entry(e: ChunkIndexEntry) -> Position
 }
 
 // Past the last record, or the position itself where there is none.
+#[tactic(auto, using(crate::proofs::Records::past_records), unfolding(crate::specs::Seek::past_last, chunk_index::specs::Entry::entries_from))]
 fn beyond_last(position: Position, table: &[u8]) -> Position
     ensures { result ≡ past_last position (entries_of table.now) }
 {
