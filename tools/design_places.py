@@ -36,7 +36,7 @@ for path in files:
         note(3, path, line_of(text, m.start()), m.group(0).strip())
     for m in re.finditer(r"^( *)(?:pub )?(?:extern \"C\" )?fn (\w+)(.*?)^\1\{\n(.*?)^\1\}", text, re.S | re.M):
         functions.append((path, line_of(text, m.start()), m.group(2), m.group(3), m.group(4)))
-    for m in re.finditer(r"^\s*(?:if|\} else if) (\w+) [<>=]= (?:[A-Z]\w*::)?[A-Z_]+ \{", text, re.M):
+    for m in re.finditer(r"^\s*(?:if|\} else if) (\w+) == (?:[A-Z]\w*::)?[A-Z_]+ \{", text, re.M):
         note(7, path, line_of(text, m.start()), m.group(0).strip())
 
 twins = collections.defaultdict(list)
@@ -59,10 +59,10 @@ for path, line, name, head, body in functions:
     for i in range(len(names)):
         for j in range(i + 1, len(names)):
             together[(names[i], names[j])].append((path, line, name))
-    for m in re.finditer(r"(\w+): &(?:'\w+ )?(?:mut )?\[\w+\],\s*(off|len|end|count): usize", head):
+    for m in re.finditer(r"(\w+): &(?:'\w+ )?(?:mut )?\[\w+\],\s*(len|end|count): usize", head):
         note(6, path, line, "%s: a slice and %s" % (name, m.group(2)))
     slices = [n for n in names if re.search(n + r": &\[(u8|u32|u64|i64)\]", head)]
-    if len(slices) > 3:
+    if len(slices) > 3 and re.search(r"\.len\(\) != |all_or_none", body):
         note(6, path, line, "%s: slices %s" % (name, ", ".join(slices)))
     if re.fullmatch(r"equals|larger|least|min|max|saturating_mul|wide|signed|classify|tag|level_of|sample_of|function_of|trailer_of|mark_of|request_of|from_packed|to_packed|initial_\w+|\w+_word|mark_bit", name) \
             and body.count("\n") <= 16:

@@ -1,25 +1,18 @@
 -- From what the called function ensures to what the exported one answers and leaves. Assumes nothing.
 use mathlib.Core.Path.{◌≡◌, refl, sym, ap, subst, ◌∙◌}
-use Rattle.std.proofs.Common.{Result, Ok, Err}
-use Rattle.std.proofs.Common.{Option}
+use Rattle.std.proofs.Common.{Result, Ok, Err, Option}
 use Rattle.error.specs.declared.AmvError.{AmvError}
-use Prim.Native.Nat.{ℕ, ◌-◌}
+use Prim.Native.Nat.{ℕ}
 use mathlib.Core.Bool.{Bool, true, false, cond}
-use mathlib.Core.List.{List, [], ◌∷◌}
-use native.Mathlib.Omega.{arith}
-use lib.IntN.{ℤ}
-use lib.ListN.{length, replicate, drop}
+use mathlib.Core.List.{List, ◌∷◌}
+use lib.ListN.{length, drop}
 use Rattle.std.specs.Result.{MatchResult, IsOkAnd}
-use mir.Syntax.{w64}
-use mir.Val.{SFits, to_z, of_z}
-use mir.ValLaws.{to_z-of_z}
-use Rattle.error.specs.Answer.{Answer, accepted, refused, numbered, and_then}
+use Rattle.error.specs.Answer.{Answer, accepted, refused, and_then}
 use Rattle.error.specs.Refusal.{said}
 use Rattle.demuxer.specs.Read.{said_next, said_read, read_of}
 use Rattle.demuxer.specs.declared.walker.Walker.{Walker}
 use Rattle.demuxer.specs.declared.packet.Packet.{Packet}
 use Rattle.demuxer.specs.declared.walker.Read.{Read}
-use Rattle.seek.specs.Seek.{Seeking, seek_of}
 use Rattle.muxer.specs.Writer.{WriteOutcome, MeetsOutcome, outcome, after_packet, packet_questions, packet_call}
 use Rattle.muxer.specs.declared.Writer.{Writer}
 use Rattle.muxer.specs.declared.Wrote.{Wrote}
@@ -31,7 +24,7 @@ use Rattle.registers.specs.declared.RegisterStep.{RegisterStep}
 use Rattle.registers.specs.declared.Told.{Told}
 use Rattle.words.specs.Out.{OutSays, given, checked, unless_refused, shown_words, read_words}
 use Rattle.words.specs.State.{word, mark_of, walker_of, walker_words, writer_of, writer_words, counts_into}
-use Rattle.words.proofs.Laws.{says-accepted, says-refused}
+use Rattle.words.proofs.Laws.{says-accepted}
 use Rattle.words.proofs.States.{mark_back, at_counts, counts_kept}
 use Rattle.capi.specs.Calls.{WalkerCall, next_answer, step_answer, step_walker, StepCall, WriterCall}
 use Rattle.capi.specs.Steps.{DoneInWords}
@@ -50,11 +43,13 @@ pub gave : {A R : Type 0} {answer : Answer A} {r v : R} (said_of : R → Answer 
     → given f answer ≡ given f (said_of v)
 gave said_of f e t = ap (λ a. given f a) (known said_of e t)
 
--- the answer of a call whose words come of its result by `map`
-pub says-mapped : {A : Type 0} {answer : Answer A} {number : ℕ} {out : List ℕ} (n : ℕ) (r : Result A AmvError) (m : Result (List ℕ) AmvError)
+-- ---- a result by `map`
+
+-- the answer of a call whose words come of its result
+pub says_mapped : {A : Type 0} {answer : Answer A} {number : ℕ} {out : List ℕ} (n : ℕ) (r : Result A AmvError) (m : Result (List ℕ) AmvError)
     (words : A → List ℕ) → said r ≡ answer → MatchResult r (λ x. IsOkAnd m (λ y. y ≡ 0 ∷ words x)) (λ e. m ≡ Err e)
     → OutSays n (given (drop 1) (said m)) number out → OutSays n (given words answer) number out
-says-mapped {A} {answer} {number} {out} n r m words e f s =
+says_mapped {A} {answer} {number} {out} n r m words e f s =
     subst (λ (a : Answer (List ℕ)). OutSays n a number out) (by_cases r m f ∙ ap (given words) e) s
   where
     by_cases : (r : Result A AmvError) (m : Result (List ℕ) AmvError) → MatchResult r (λ x. IsOkAnd m (λ y. y ≡ 0 ∷ words x)) (λ e. m ≡ Err e)
@@ -62,6 +57,12 @@ says-mapped {A} {answer} {number} {out} n r m words e f s =
     by_cases (Ok x) (Ok y) f = ap (λ (l : List ℕ). accepted (drop 1 l)) f
     by_cases (Ok x) (Err e) f = absurd f
     by_cases (Err e) m f = ap (λ (v : Result (List ℕ) AmvError). given (drop 1) (said v)) f
+
+-- a number that is cast says the same
+pub cast_says : (r m : Result ℕ AmvError) → MatchResult r (λ x. IsOkAnd m (λ y. y ≡ x)) (λ e. m ≡ Err e) → said m ≡ said r
+cast_says (Ok x) (Ok y) f = ap accepted f
+cast_says (Ok x) (Err e) f = absurd f
+cast_says (Err e) m f = ap said f
 
 -- ---- a state's words: the call goes on with the state that they spell
 
@@ -72,20 +73,9 @@ module _ {S : Type 0} {decoded : Answer S} {s : S} (e : decoded ≡ accepted s) 
   legal_leaves : (before : List ℕ) (after : S → List ℕ) → after s ≡ unless_refused before decoded after
   legal_leaves before after = ap (λ d. unless_refused before d after) (sym e)
 
--- or they spell none: 1 at 0, and nothing changes
-module _ {S : Type 0} {decoded : Answer S} (e : decoded ≡ refused (numbered 1 0)) where
-  illegal-says : (n : ℕ) (f : S → Answer (List ℕ)) → OutSays n (and_then decoded f) 1 (0 ∷ replicate (n - 1) 0)
-  illegal-says n f = says-refused n (ap (λ d. and_then d f) e) refl refl (λ z. omega arith)
-
-  illegal-leaves : (before : List ℕ) (after : S → List ℕ) → before ≡ unless_refused before decoded after
-  illegal-leaves before after = ap (λ d. unless_refused before d after) (sym e)
-
 -- ---- a read and a seek
 
 module _ (n : ℕ) (answer : Walker → Answer (List ℕ)) (next : Walker → Walker) (ws : List ℕ) where
-  pub walks_illegal : walker_of ws ≡ refused (numbered 1 0) → WalkerCall n answer next ws 1 (0 ∷ replicate (n - 1) 0) ws
-  walks_illegal e = record { says = illegal-says e n answer; walker = illegal-leaves e ws _ }
-
   pub walks : {w : Walker} {number : ℕ} {out after : List ℕ} → walker_of ws ≡ accepted w → OutSays n (answer w) number out
       → after ≡ walker_words (next w) → WalkerCall n answer next ws number out after
   walks e said o = record { says = legal_says e n answer said; walker = o ∙ legal_leaves e ws (λ w. walker_words (next w)) }
@@ -95,21 +85,9 @@ pub read_gave : (file : List ℕ) (w : Walker) {r : Read} {v : Result (Option Pa
     → next_answer file w ≡ read_words w (said_next file v)
 read_gave file w e t = ap (λ q. read_words w q.answer) (sym e) ∙ ap (λ v. read_words w (said_next file v)) t
 
--- a signed request goes to the seek as 64 bits, which give the same number
-pub as_requested : (table : List ℕ) (w : Walker) (stream : ℕ) (request : ℤ) {q : Seeking} → SFits w64 request
-    → q ≡ seek_of table w stream (to_z w64 (of_z w64 request)) → q ≡ seek_of table w stream request
-as_requested table w stream request f e = e ∙ ap (seek_of table w stream) (to_z-of_z w64 request f)
-
 -- ---- a step
 
 module _ (file table ws block : List ℕ) where
-  pub steps-illegal : walker_of ws ≡ refused (numbered 1 0) → StepCall file table ws block 1 (0 ∷ replicate 6 0) ws block
-  steps-illegal e =
-      record {
-        call = walks_illegal 7 (step_answer file table block) (step_walker file table block) ws e;
-        block = illegal-leaves e block (λ w. (step_of file table w block).block);
-      }
-
   -- by its result, which is known
   pub steps : {w : Walker} {r : RegisterStep} {v : Result (Option Packet) AmvError} {number : ℕ} {out words after : List ℕ} → walker_of ws ≡ accepted w
       → MeetsStep file table w block r after → r.result ≡ v → words ≡ walker_words r.walker
@@ -124,11 +102,11 @@ module _ (file table ws block : List ℕ) where
       }
 
   -- by its command that is performed, and by the block that is written of what is told and of the walker's marks
-  pub steps-done : {w : Walker} (c : Option Call) {t : Told} {out words after : List ℕ} → walker_of ws ≡ accepted w → command_in block ≡ accepted c
+  pub steps_done : {w : Walker} (c : Option Call) {t : Told} {out words after : List ℕ} → walker_of ws ≡ accepted w → command_in block ≡ accepted c
       → DoneInWords w (perform file table w c) t out words → after ≡ block_told block t (mark_of (word words 4)) (mark_of (word words 5))
       → StepCall file table ws block 0 out words after
   unfolding step_of
-  steps-done {w} c e q d b =
+  steps_done {w} c e q d b =
       let p = perform file table w c in
       let k : step_of file table w block ≡ stepped block p = ap (stepped_from file table w block) q in
       let end = ap (λ (l : List ℕ). mark_of (word l 4)) d.walker ∙ mark_back p.walker.end in
@@ -145,14 +123,6 @@ module _ (file table ws block : List ℕ) where
 -- ---- a writing call
 
 module _ (call : Writer → WriteOutcome) (ws buf : List ℕ) where
-  pub writes-illegal : writer_of ws ≡ refused (numbered 1 0) → WriterCall call ws buf 1 (0 ∷ []) ws buf
-  writes-illegal e =
-      record {
-        says = illegal-says e 1 (λ w. checked (call w).answer);
-        writer = illegal-leaves e ws (λ w. writer_words (call w).writer);
-        buffer = illegal-leaves e buf (λ w. (call w).buffer);
-      }
-
   pub writes : {w : Writer} {r : Wrote} {number : ℕ} {out words after : List ℕ} → writer_of ws ≡ accepted w → MeetsOutcome (call w) r after
       → words ≡ writer_words r.writer → OutSays 1 (checked (said r.result)) number out → WriterCall call ws buf number out words after
   writes {number = number} {out = out} e m o s =
@@ -171,11 +141,11 @@ outcome_counts : (q : Answer Unit) (w : Writer) (buf : List ℕ) (size stream : 
 outcome_counts (accepted u) w buf size stream after = refl
 outcome_counts (refused r) w buf size stream after = refl
 
-pub packet-words : (ws buf payload : List ℕ) (stream : ℕ) {w : Writer} {r : Wrote} {after words : List ℕ} → writer_of ws ≡ accepted w
+pub packet_words_kept : (ws buf payload : List ℕ) (stream : ℕ) {w : Writer} {r : Wrote} {after words : List ℕ} → writer_of ws ≡ accepted w
     → MeetsOutcome (packet_call w payload stream buf) r after → words ≡ counts_into r.writer.written r.writer.frames ws
     → words ≡ writer_words r.writer
 unfolding packet_call
-packet-words ws buf payload stream {w} e m o =
+packet_words_kept ws buf payload stream {w} e m o =
     o
     ∙ ap (λ (v : Writer). counts_into v.written v.frames ws) m.writer
     ∙ counts_kept ws w _ _ e

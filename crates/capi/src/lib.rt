@@ -36,7 +36,7 @@ use words::out::{answer_out, packet_out, prelude_out, refusal_out, result_out};
 use words::walker::{at_position, mark_word, walker_of, walker_words};
 use words::writer::{at_counts, writer_of, writer_words};
 
-// The number of a call whose state's words are not all in their fields' ranges. A number: C gets numbers.
+// The number of a call whose state's words are not all in their fields' ranges. The documents have no such question, so AmvError has no such case.
 const ILLEGAL_STATE: u32 = 1;
 
 // The answer of such a call, and zeros.
@@ -72,6 +72,7 @@ fn counts_out(counts: ChunkCounts) -> [u64; 3]
 }
 
 // The frames and blocks of a file, without a table. Refuses with 10 and 31.
+#[tactic(auto, using(crate::proofs::Laws::says_mapped))]
 pub fn amv_summary(file: &[u8], out: &mut [u64; 3]) -> u32
     ensures { OutSays 3 (summary_answer file.now) result out.new }
 {
@@ -93,6 +94,7 @@ fn totals_out(totals: Totals) -> [u64; 6]
 }
 
 // Whether a file is a finished recording, and its totals. Refuses with 10 to 24, 60, 61 and 31.
+#[tactic(auto, using(crate::proofs::Laws::says_mapped))]
 pub fn amv_check(file: &[u8], out: &mut [u64; 6]) -> u32
     ensures { OutSays 6 (check_answer file.now) result out.new }
 {
@@ -107,6 +109,7 @@ fn number_out(number: u64) -> [u64; 2]
 }
 
 // The index of a file into a table, for the jumps; gives the number of records. Refuses with 10, 31 and 40.
+#[tactic(auto, using(crate::proofs::Laws::says_mapped, crate::proofs::Laws::cast_says))]
 pub fn amv_build_chunk_index(file: &[u8], table: &mut [u8], out: &mut [u64; 2]) -> u32
     ensures out_says { OutSays 2 (index_answer file.now table.old) result out.new }
     ensures table_after { table.new ≡ (build_of file.now table.old).table }
@@ -116,6 +119,7 @@ pub fn amv_build_chunk_index(file: &[u8], table: &mut [u8], out: &mut [u64; 2]) 
 }
 
 // The page of an index for the strip printer: a line of 40 columns for each record; gives the number of lines. Refuses with 41, 43, 70 and 40.
+#[tactic(auto, using(crate::proofs::Laws::says_mapped, crate::proofs::Laws::cast_says))]
 pub fn amv_print_index(table: &[u8], page: &mut [u8], out: &mut [u64; 2]) -> u32
     ensures out_says { OutSays 2 (page_answer table.now page.old) result out.new }
     ensures page_after { page.new ≡ (print_of table.now page.old).page }
@@ -125,11 +129,12 @@ pub fn amv_print_index(table: &[u8], page: &mut [u8], out: &mut [u64; 2]) -> u32
 }
 
 // The samples of a sound block: IMA ADPCM, a signed 16-bit number for each nibble; gives how many they are. Refuses with 25, 71, 72 and 73.
+#[tactic(auto, using(crate::proofs::Laws::says_mapped, crate::proofs::Laws::cast_says))]
 pub fn amv_decode_block(block: &[u8], samples: &mut [i16], out: &mut [u64; 2]) -> u32
     ensures out_says { OutSays 2 (samples_answer block.now samples.old) result out.new }
     ensures samples_after { samples.new ≡ (decode_of block.now samples.old).samples }
 {
-    let count = decode_block(block, samples).map(|count| u64::from(count));
+    let count = decode_block(block, samples).map(u64::from);
     answer_out(count.map(number_out), out)
 }
 
@@ -145,6 +150,7 @@ fn parsed(file: &[u8], strict: bool) -> Result<AmvPrelude, AmvError>
 }
 
 // The fields of the prelude. Refuses with 10 to 13 for a layout that is not that of the format and, if strict, with 14 to 24 for a field.
+#[tactic(auto, using(crate::proofs::Laws::says_mapped))]
 pub fn amv_parse(file: &[u8], strict: bool, out: &mut [u64; 16]) -> u32
     ensures { OutSays 16 (parse_answer file.now strict) result out.new }
 {
@@ -163,7 +169,7 @@ pub fn amv_next_packet(file: &[u8], walker: &mut [u64; 7], out: &mut [u64; 7]) -
         answer,
         walker: next,
     } = state.next_packet(file);
-    // Answered here and not by answer_out: reads are many, and it would be a call.
+    // Answered here and not by answer_out: reads are many, and with that call one took twice as long.
     match answer {
         Ok(Some(packet)) => {
             // Only the position is new, so four words are stored and not seven.
@@ -207,15 +213,14 @@ pub fn amv_seek_to_via_index(
 fn read_step(file: &[u8], walker: &mut [u64; 7], out: &mut [u64; 7]) -> Told
     ensures { Performs (read_performed file.now) walker.old result out.new walker.new }
 {
-    let number = amv_next_packet(file, walker, out);
-    if number != 0 {
-        *out = [0; 7];
-        return Told::Refused(number as u8);
+    match amv_next_packet(file, walker, out) {
+        0 if out[1] == 0 => Told::Nothing,
+        0 => Told::Gave(out[5]),
+        number => {
+            *out = [0; 7];
+            Told::Refused(number as u8)
+        }
     }
-    if out[1] == 0 {
-        return Told::Nothing;
-    }
-    Told::Gave(out[5])
 }
 
 // The seek of a step, by amv_seek_to_via_index: what the block is to tell of it, with 0 in each word of `out`. It refuses nothing: where the seek is
@@ -232,15 +237,15 @@ fn seek_step(
 {
     *out = [0; 7];
     let mut sought = [0; 2];
-    let number = amv_seek_to_via_index(table, walker, stream, signed(request), &mut sought);
-    if number != 0 {
-        return Told::Refused(number as u8);
+    match amv_seek_to_via_index(table, walker, stream, signed(request), &mut sought) {
+        0 => Told::Went(sought[1]),
+        number => Told::Refused(number as u8),
     }
-    Told::Went(sought[1])
 }
 
-// Performs the command of a step on a walker and its words, through the calls above, so that what a read or a seek does is the same code in a step.
-// It refuses nothing: where the read or seek is refused, that is told.
+// Performs the command of a step on a walker and its words, through the calls above, so that what a read or a seek does is the same code in a step:
+// with the step by value, `register_step`, a read took three times as long and a step twice (docs/SPEED.md). It refuses nothing: where the read or
+// seek is refused, that is told.
 fn perform(
     file: &[u8],
     table: &[u8],

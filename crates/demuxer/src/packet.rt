@@ -5,7 +5,7 @@ ghost use Rattle.demuxer.specs.Packet.{payload_of, packet_duration};
 // What a read gives: the stream, where its payload stands in the file, and when and how long it is shown.
 #[derive(Clone, Copy, Debug, PartialEq, Eq)]
 pub struct Packet {
-    // 0 for frames, 1 for sound.
+    // 0 for frames, 1 for sound: a number, since calls are given any and refuse another (42, 53), and C has it as a word.
     pub stream: u32,
     pub start: usize,
     pub len: usize,

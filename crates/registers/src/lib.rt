@@ -215,7 +215,7 @@ fn refusal_number(told: Told) -> u8
     }
 }
 
-// A bit of status by a mark of the walker.
+// A bit of status by a mark of the walker. No `From`: which bit is told by the place.
 fn mark_bit(mark: bool, bit: u8) -> u8
     ensures { result ≡ cond mark bit 0 }
 {

@@ -1,14 +1,9 @@
--- What a call says, by its answer: accepted with its words, or refused with its number and place; and the words of a packet. Assumes nothing.
+-- What an accepted call says, and the words of a packet. Assumes nothing.
 use mathlib.Core.Path.{◌≡◌, sym, ap, subst, ◌∙◌}
 use Rattle.std.proofs.Common.{Some}
-use Prim.Native.Nat.{ℕ, ◌-◌}
+use Prim.Native.Nat.{ℕ}
 use mathlib.Core.List.{List, ◌∷◌}
-use lib.ListN.{replicate}
-use Rattle.error.specs.Answer.{Answer, accepted, refused, number_of}
-use Rattle.error.specs.Refusal.{refusal_of}
-use Rattle.error.specs.declared.Refusal.{Refusal}
-use Rattle.error.specs.declared.AmvError.{AmvError}
-use Rattle.error.proofs.Numbers.{never_zero}
+use Rattle.error.specs.Answer.{Answer, accepted, number_of}
 use Rattle.demuxer.specs.Packet.{shown_of}
 use Rattle.demuxer.specs.Read.{PlacedAt}
 use Rattle.demuxer.proofs.Bodies.{length-payload}
@@ -25,20 +20,6 @@ says-accepted n e o =
       words = o ∙ ap (out_of n) (sym e);
       zero = λ _. subst (λ (a : Answer (List ℕ)). Accepted a) (sym e) tt;
     }
-
-pub says-refused : {answer : Answer (List ℕ)} {r : Refusal} {number place : ℕ} (n : ℕ) → answer ≡ refused r → number ≡ r.number
-    → place ≡ r.place → (r.number ≡ 0 → ⊥) → OutSays n answer number (place ∷ replicate (n - 1) 0)
-says-refused n e p q d =
-    record {
-      number = p ∙ ap number_of (sym e);
-      words = ap (λ (k : ℕ). k ∷ replicate (n - 1) 0) q ∙ ap (out_of n) (sym e);
-      zero = λ z. absurd (d (sym p ∙ z));
-    }
-
--- a refusal of the code
-pub says_error : {answer : Answer (List ℕ)} {number place : ℕ} (n : ℕ) (e : AmvError) → answer ≡ refused (refusal_of e)
-    → number ≡ (refusal_of e).number → place ≡ (refusal_of e).place → OutSays n answer number (place ∷ replicate (n - 1) 0)
-says_error n e a p q = says-refused n a p q (never_zero e)
 
 -- ---- a packet
 

@@ -8,7 +8,8 @@ use demuxer::packet::Packet;
 use error::AmvError;
 use prelude::prelude::AmvPrelude;
 
-// The answer of a call that refuses: gives the refusal's number, and leaves its place in `out` and zeros after it.
+// The answer of a call that refuses: gives the refusal's number, and leaves its place in `out` and zeros after it. An `out` has a word at least, here
+// and below: a clause says so, since a const parameter has no bound.
 pub fn refusal_out<const N: usize>(e: AmvError, out: &mut [u64; N]) -> u32
     requires { 0 < N }
     ensures { OutSays N (refused (refusal_of e)) result out.new }
@@ -20,7 +21,7 @@ pub fn refusal_out<const N: usize>(e: AmvError, out: &mut [u64; N]) -> u32
 }
 
 // The answer of a call: gives its number, and leaves in `out` the words that it gives, or the refusal's place and zeros. The first word is the
-// place, so an accepted answer has 0 there. Refusals are a function of their own, so that this one is short enough to stand in each call.
+// place, so an accepted answer has 0 there.
 pub fn answer_out<const N: usize>(res: Result<[u64; N], AmvError>, out: &mut [u64; N]) -> u32
     requires { 0 < N }
     ensures { OutSays N (given (drop 1) (said res.entry)) result out.new }

@@ -8,7 +8,7 @@ use demuxer::walker::Walker;
 // The trailer's word where none was met.
 pub const NOT_MET: u64 = u64::MAX;
 
-// The trailer of its word. No `From`, here and below: a word is a number, and only its place makes it a trailer or a mark.
+// The trailer of its word.
 fn trailer_of(word: u64) -> Option<u64>
     ensures { result ≡ trailer_of word }
 {

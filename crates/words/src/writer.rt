@@ -5,12 +5,6 @@ ghost use Rattle.words.specs.State.{writer_of, said_writer, writer_words, counts
 use crate::walker::{mark_of, mark_word};
 use muxer::{Settings, Writer};
 
-// The largest number that a 32-bit setting holds.
-const LARGEST: u64 = u32::MAX as u64;
-
-// The largest that a 16-bit one does.
-const LARGEST_SHORT: u64 = u16::MAX as u64;
-
 // The writer that nine words spell. None where a word is over its field's range, so that no conversion loses bits.
 #[tactic(auto, unfolding(crate::specs::State::settings_legal, crate::specs::State::writer_legal))]
 pub fn writer_of(words: [u64; 9]) -> Option<Writer>
@@ -27,26 +21,16 @@ pub fn writer_of(words: [u64; 9]) -> Option<Writer>
         written,
         frames,
     ] = words;
-    if width > LARGEST
-        || height > LARGEST
-        || fps > LARGEST
-        || rate > LARGEST
-        || channels > LARGEST_SHORT
-        || begun > 1
-        || ended > 1
-    {
-        return None;
-    }
     Some(Writer {
         settings: Settings {
-            width: width as u32,
-            height: height as u32,
-            fps: fps as u32,
-            rate: rate as u32,
-            channels: channels as u16,
+            width: u32::try_from(width).ok()?,
+            height: u32::try_from(height).ok()?,
+            fps: u32::try_from(fps).ok()?,
+            rate: u32::try_from(rate).ok()?,
+            channels: u16::try_from(channels).ok()?,
         },
-        begun: begun == 1,
-        ended: ended == 1,
+        begun: mark_of(begun)?,
+        ended: mark_of(ended)?,
         written,
         frames,
     })

@@ -1,28 +1,29 @@
 -- `capi::amv_next_packet` meets its contract. After a packet only the position has moved (`packet-moves`), so four new words are all of the walker's
 -- (`position-kept`).
 -- Assumes nothing.
-use Rattle.std.proofs.Common.{◌≡◌, arith, Ok, Some, sym, ap, subst, ◌∙◌}
+use Rattle.std.proofs.Common.{Ok, Some}
+use mathlib.Core.Path.{◌≡◌, sym, ap, subst, ◌∙◌}
 use Rattle.error.specs.Answer.{accepted}
 use Rattle.demuxer.specs.Read.{Placed}
-use Rattle.words.specs.State.{walker_words}
+use Rattle.demuxer.proofs.Outcomes.{packet-moves}
+use Rattle.words.specs.State.{said_walker, walker_words}
 use Rattle.words.proofs.Laws.{says-accepted, packet-placed}
 use Rattle.words.proofs.States.{position-kept}
 use Rattle.capi.specs.Calls.{next_walker}
-use Rattle.capi.proofs.Laws.{walks, read_gave}
-use Rattle.demuxer.proofs.Outcomes.{packet-moves}
+use Rattle.capi.proofs.Laws.{known, walks, read_gave}
 use Rattle.capi.proofs.amv_next_packet.Goals as goal
 
 pub returns-in-Ok-Some : goal.returns-in-Ok-Some
 returns-in-Ok-Some c =
-    let r = c.next_packet-answer in
+    let r = c.next_packet-answer.ensures in
     let w = c.in-Some.state in
-    let a = c.args in
-    let legal = sym c.in-Some.ensures in
-    let some = c.in-Ok-Some.field-0-is in
-    let is = c.in-Ok-Some.is in
-    let given : r.result.answer ≡ Ok (Some c.in-Ok-Some.packet) = grind arith in
-    let placed = packet-placed a.file.now w _ (subst (Placed a.file.now w) given r.ensures.placed) in
-    walks 7 _ (next_walker a.file.now) _ legal
-    (says-accepted 7 (read_gave a.file.now w r.ensures.result_value given ∙ ap accepted (sym placed)) c.packet_out.ensures)
-    (c.at_position.ensures ∙ position-kept a.walker.now w _ legal ∙ ap walker_words (sym (packet-moves a.file.now w r.ensures.result_value given))
-    ∙ ap (λ q. walker_words q.walker) r.ensures.result_value)
+    let file = c.args.file.now in
+    let legal = known said_walker c.walker_of.ensures c.in-Some.is in
+    let ok : c.next_packet-answer.result.answer ≡ Ok c.in-Ok-Some.field-0 = c.in-Ok-Some.is in
+    let some : c.in-Ok-Some.field-0 ≡ Some c.in-Ok-Some.packet = rw ok at c.in-Ok-Some.field-0-is in
+    let given = ok ∙ ap Ok some in
+    let placed = packet-placed file w _ (subst (Placed file w) given r.placed) in
+    walks 7 _ (next_walker file) _ legal
+    (says-accepted 7 (read_gave file w r.result_value given ∙ ap accepted (sym placed)) c.packet_out.ensures)
+    (c.at_position.ensures ∙ position-kept c.args.walker.now w _ legal ∙ ap walker_words (sym (packet-moves file w r.result_value given))
+    ∙ ap (λ q. walker_words q.walker) r.result_value)

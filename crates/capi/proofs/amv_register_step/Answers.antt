@@ -1,10 +1,11 @@
--- `capi::amv_register_step` meets its contract. A step that is refused leaves all as it was (`step-refused`); else the command that is performed and the
--- block that is written of it are the step's (`steps-done`).
+-- `capi::amv_register_step` meets its contract. A step that is refused leaves all as it was (`step-refused`); else the command that is performed and
+-- the block that is written of it are the step's (`steps_done`).
 -- Assumes nothing.
-use Rattle.std.proofs.Common.{refl, sym}
+use mathlib.Core.Path.{refl}
 use Rattle.registers.proofs.Blocks.{block-whole}
 use Rattle.registers.proofs.Performs.{command-is, step-refused}
-use Rattle.capi.proofs.Laws.{steps, steps-done}
+use Rattle.words.specs.State.{said_walker}
+use Rattle.capi.proofs.Laws.{known, steps, steps_done}
 use Rattle.capi.proofs.amv_register_step.Goals as goal
 
 pub write_block-requires : goal.write_block-requires
@@ -15,11 +16,12 @@ write_block-requires c =
 pub returns-in-Err : goal.returns-in-Err
 returns-in-Err c =
     let a = c.args in
-    steps a.file.now a.table.now a.walker.now a.block.now (sym c.in-Some.ensures)
-    (step-refused a.file.now a.table.now c.in-Some.state a.block.now c.command_in.ensures c.in-Err.is) refl c.walker_words.ensures c.refusal_out.ensures
+    steps a.file.now a.table.now a.walker.now a.block.now (known said_walker c.walker_of.ensures c.in-Some.is)
+    (step-refused a.file.now a.table.now c.in-Some.state a.block.now c.command_in.ensures c.in-Err.is) refl c.walker_words.ensures
+    c.refusal_out.ensures
 
 pub returns-in-Ok : goal.returns-in-Ok
 returns-in-Ok c =
     let a = c.args in
-    steps-done a.file.now a.table.now a.walker.now a.block.now _ (sym c.in-Some.ensures)
+    steps_done a.file.now a.table.now a.walker.now a.block.now _ (known said_walker c.walker_of.ensures c.in-Some.is)
     (command-is a.file.now a.table.now c.in-Some.state a.block.now c.command_in.ensures c.in-Ok.is) c.perform-told.ensures c.write_block.ensures

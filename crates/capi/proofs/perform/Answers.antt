@@ -1,4 +1,4 @@
--- `capi::perform` meets its contract. Each arm is the command that it names.
+-- `capi::perform` meets its contract. A read and a seek are the command that they name, on the walker that the words spell.
 -- Assumes nothing.
 use Rattle.capi.proofs.Steps.{read_is, seek_is}
 use Rattle.capi.proofs.perform.Goals as goal

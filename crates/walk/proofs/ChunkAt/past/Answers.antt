@@ -13,21 +13,6 @@ use Rattle.walk.specs.declared.Kind.{Kind}
 use Rattle.walk.proofs.Walked.{walked_range, walked_frame, count_small, walked_sound}
 use Rattle.walk.proofs.ChunkAt.past.Goals as goal
 
-pub past_frame-requires : goal.past_frame-requires
-past_frame-requires c = walked_range c.args.position c.requires.walked (omega (arith, c.requires.file_len_bound, c.requires.cursor_in_bounds))
-
-pub past_sound-requires : goal.past_sound-requires
-past_sound-requires c = walked_range c.args.position c.requires.walked (omega (arith, c.requires.file_len_bound, c.requires.cursor_in_bounds))
-
-pub returns-in-Frame : goal.returns-in-Frame
-returns-in-Frame c =
-    let a = c.args in
-    let e = c.past_frame.ensures in
-    let count = count_of (payload_at a.file.now a.position.cursor a.self.size) in (
-      e ∙ sym (ap (λ (k : Kind). past_by a.position k a.self.size count) c.in-Frame.is),
-      rw e (walked_frame a.position c.requires.walked (omega (arith, c.requires.file_len_bound, c.requires.cursor_in_bounds)) a.self.size (omega arith)),
-    )
-
 pub returns-in-Sound : goal.returns-in-Sound
 returns-in-Sound c =
     let a = c.args in
