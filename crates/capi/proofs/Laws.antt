@@ -8,7 +8,7 @@ use mathlib.Core.List.{List, ◌∷◌}
 use lib.ListN.{length, drop}
 use Rattle.std.specs.Result.{MatchResult, IsOkAnd}
 use Rattle.error.specs.Answer.{Answer, accepted, refused, and_then}
-use Rattle.error.specs.Refusal.{said}
+use Rattle.error.specs.Refusal.{refusal_of, said}
 use Rattle.demuxer.specs.Read.{said_next, said_read, read_of}
 use Rattle.demuxer.specs.declared.walker.Walker.{Walker}
 use Rattle.demuxer.specs.declared.packet.Packet.{Packet}
@@ -25,8 +25,9 @@ use Rattle.registers.specs.declared.Told.{Told}
 use Rattle.words.specs.Out.{OutSays, given, checked, unless_refused, shown_words, read_words}
 use Rattle.words.specs.State.{word, mark_of, walker_of, walker_words, writer_of, writer_words, counts_into}
 use Rattle.words.proofs.Laws.{says-accepted}
-use Rattle.words.proofs.States.{mark_back, at_counts, counts_kept}
-use Rattle.capi.specs.Calls.{WalkerCall, next_answer, step_answer, step_walker, StepCall, WriterCall}
+use Rattle.words.proofs.States.{mark_back, at_counts, counts_kept, words_stand}
+use Rattle.demuxer.proofs.Outcomes.{refused-stays}
+use Rattle.capi.specs.Calls.{WalkerCall, next_answer, next_walker, step_answer, step_walker, StepCall, WriterCall}
 use Rattle.capi.specs.Steps.{DoneInWords}
 
 -- what holds of both choices
@@ -84,6 +85,16 @@ module _ (n : ℕ) (answer : Walker → Answer (List ℕ)) (next : Walker → Wa
 pub read_gave : (file : List ℕ) (w : Walker) {r : Read} {v : Result (Option Packet) AmvError} → said_read file r ≡ read_of file w → r.answer ≡ v
     → next_answer file w ≡ read_words w (said_next file v)
 read_gave file w e t = ap (λ q. read_words w q.answer) (sym e) ∙ ap (λ v. read_words w (said_next file v)) t
+
+-- a refused read gives back the walker, so its words are as they were
+pub refused_read : (file ws : List ℕ) {w : Walker} {r : Read} {e : AmvError} {number : ℕ} {out : List ℕ} → length ws ≡ 7 → walker_of ws ≡ accepted w
+    → said_read file r ≡ read_of file w → r.answer ≡ Err e → OutSays 7 (refused (refusal_of e)) number out
+    → WalkerCall 7 (next_answer file) (next_walker file) ws number out ws
+refused_read file ws {w} {r} {e} {number} {out} h legal m t s =
+    walks 7 (next_answer file) (next_walker file) ws legal
+    (subst (λ (a : Answer (List ℕ)). OutSays 7 a number out) (sym (read_gave file w m t)) s)
+    (sym (words_stand.walker_kept ws w h legal)
+    ∙ ap walker_words (sym (refused-stays file w (sym (ap (λ q. q.answer) m) ∙ ap (said_next file) t))))
 
 -- ---- a step
 

@@ -182,10 +182,8 @@ pub fn amv_next_packet(file: &[u8], walker: &mut [u64; 7], out: &mut [u64; 7]) -
             *out = [0; 7];
             0
         }
-        Err(e) => {
-            *walker = walker_words(next);
-            refusal_out(e, out)
-        }
+        // The walker is the one that was given, so its words stay.
+        Err(e) => refusal_out(e, out),
     }
 }
 
@@ -285,10 +283,7 @@ pub fn amv_register_step(
         return illegal_state(out);
     };
     match command_in(block) {
-        Err(e) => {
-            *walker = walker_words(state);
-            refusal_out(e, out)
-        }
+        Err(e) => refusal_out(e, out),
         Ok(command) => {
             let told = perform(file, table, state, walker, command, out);
             write_block(block, told, walker[4] == 1, walker[5] == 1);
