@@ -59,13 +59,13 @@ for path, line, name, head, body in functions:
     for i in range(len(names)):
         for j in range(i + 1, len(names)):
             together[(names[i], names[j])].append((path, line, name))
-    for m in re.finditer(r"(\w+): &(?:'\w+ )?(?:mut )?\[\w+\],\s*(len|end|count): usize", head):
+    for m in re.finditer(r"(\w+): &(?:'\w+ )?(?:mut )?\[\w+\],\s*(off|at|start|place|i|len|end|count): usize", head):
         note(6, path, line, "%s: a slice and %s" % (name, m.group(2)))
     slices = [n for n in names if re.search(n + r": &\[(u8|u32|u64|i64)\]", head)]
     if len(slices) > 3 and re.search(r"\.len\(\) != |all_or_none", body):
         note(6, path, line, "%s: slices %s" % (name, ", ".join(slices)))
-    if re.fullmatch(r"equals|larger|least|min|max|saturating_mul|wide|signed|classify|tag|level_of|sample_of|function_of|trailer_of|mark_of|request_of|from_packed|to_packed|initial_\w+|\w+_word|mark_bit", name) \
-            and body.count("\n") <= 16:
+    if re.fullmatch(r"equal\w*|larger|least|min|max|saturating_mul|wide|signed|classify|tag|mark_bit|initial_\w+|\w+_of|from_\w+|to_\w+|\w+_(?:word|words|out|in|done|result)|words|told", name) \
+            and body.count("\n") <= 16 and not re.search(r"&mut self|impl Write", head):
         note(4, path, line, name)
 
 named = collections.defaultdict(list)

@@ -57,6 +57,10 @@ end_of (Tag place value) = place + 4
 end_of (Size place value) = place + 4
 end_of (Body place width) = place + width
 
+-- what stands past the last item: nothing, at the first chunk
+abbrev pub past : LayoutItem
+past = Body prelude_len 0
+
 -- "For each: does the file reach its end? 11. Tag equal? 12. Size equal? 13. Place: its start."
 unfoldable pub ask_word : List ℕ → ℕ → ℕ → Refusal → Answer Unit
 ask_word file place value wrong =

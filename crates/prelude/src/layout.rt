@@ -1,4 +1,8 @@
 // The prelude's fixed items, in offset order.
+ghost use Rattle.std.specs.Prelude.{◌≡◌, get_or};
+ghost use Rattle.prelude.specs.Layout.{layout, past};
+
+use crate::prelude::AmvPrelude;
 use parse::header::AmvHeader;
 use parse::wave_format::AmvWaveFormat;
 
@@ -35,7 +39,7 @@ pub enum LayoutItem {
 }
 
 // The items; reader and builder go through the same list.
-pub const LAYOUT: [LayoutItem; 22] = [
+pub const LAYOUT: [LayoutItem; LayoutItem::COUNT] = [
     LayoutItem::Tag(0, RIFF),
     LayoutItem::Tag(8, AMV),
     LayoutItem::Tag(12, LIST),
@@ -59,3 +63,19 @@ pub const LAYOUT: [LayoutItem; 22] = [
     LayoutItem::Tag(304, LIST),
     LayoutItem::Tag(312, MOVI),
 ];
+
+impl LayoutItem {
+    // The number of items.
+    pub const COUNT: usize = 22;
+
+    // The item of a number. Refuses nothing: past the last stands an empty body, at the first chunk.
+    pub fn at(i: usize) -> LayoutItem
+        ensures { result ≡ get_or layout i past }
+    {
+        if i < LAYOUT.len() {
+            LAYOUT[i]
+        } else {
+            LayoutItem::Body(AmvPrelude::LEN, 0)
+        }
+    }
+}
