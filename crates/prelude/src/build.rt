@@ -34,8 +34,8 @@ fn write_item(bytes: &mut [u8; AmvPrelude::LEN], item: LayoutItem)
 fn write_layout(bytes: &mut [u8; AmvPrelude::LEN])
     ensures { bytes.new ≡ write_items bytes.old layout }
 {
-    for item in LAYOUT {
-        write_item(bytes, item);
+    for item in &LAYOUT {
+        write_item(bytes, *item);
     }
 }
 

@@ -38,8 +38,8 @@ pub enum LayoutItem {
     Body(usize, usize),
 }
 
-// The items; reader and builder go through the same list.
-pub const LAYOUT: [LayoutItem; LayoutItem::COUNT] = [
+// The items; reader and builder go through the same list. It is a static: a constant array would be laid out again at each parse, before the first question.
+pub static LAYOUT: [LayoutItem; LayoutItem::COUNT] = [
     LayoutItem::Tag(0, RIFF),
     LayoutItem::Tag(8, AMV),
     LayoutItem::Tag(12, LIST),

@@ -87,8 +87,8 @@ fn require_item(file: &[u8], item: LayoutItem) -> Result<(), AmvError>
 fn require_layout(file: &[u8]) -> Result<(), AmvError>
     ensures { said result ≡ ask_items file.now layout }
 {
-    for item in LAYOUT {
-        require_item(file, item)?;
+    for item in &LAYOUT {
+        require_item(file, *item)?;
     }
     Ok(())
 }
