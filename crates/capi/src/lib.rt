@@ -203,7 +203,14 @@ pub fn amv_seek_to_via_index(
     };
     let sought = seek_to_via_index(state, table, stream, request);
     *walker = walker_words(sought.walker);
-    answer_out(sought.result.map(number_out), out)
+    // Answered here, as a read is: by answer_out a jump in a short table took a third more.
+    match sought.result {
+        Ok(stamp) => {
+            *out = number_out(stamp);
+            0
+        }
+        Err(e) => refusal_out(e, out),
+    }
 }
 
 // The read of a step, by amv_next_packet: what the block is to tell of it, with the packet's words in `out`, or 0 in each where it gave none. It
@@ -242,7 +249,7 @@ fn seek_step(
 }
 
 // Performs the command of a step on a walker and its words, through the calls above, so that what a read or a seek does is the same code in a step:
-// with the step by value, `register_step`, a read took three times as long and a step twice (docs/SPEED.md). It refuses nothing: where the read or
+// with the step by value, `register_step`, a read and a step took three times as long (docs/SPEED.md). It refuses nothing: where the read or
 // seek is refused, that is told.
 fn perform(
     file: &[u8],
