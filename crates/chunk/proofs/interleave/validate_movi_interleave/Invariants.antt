@@ -1,5 +1,5 @@
 -- `chunk::interleave::validate_movi_interleave` meets its contract. The invariant of its loop: what the definition asks from a position on is what it
--- asks of the whole list. `interleave_on` and `interleave-no` are a turn, and at the end only the parity of the count is left.
+-- asks of the whole list. At the end only the parity of the count is left.
 -- Assumes nothing.
 use Rattle.std.proofs.Common.{◌≡◌}
 use lib.ListN.{drop}
