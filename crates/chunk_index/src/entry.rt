@@ -51,7 +51,7 @@ impl ChunkIndexEntry {
 }
 
 // The records of a table, one after another from its front. Bytes at its end that make no whole record are none. It goes by their numbers and
-// not by the bytes that are left, which makes a search over it as fast as one that counts.
+// not by the bytes that are left: so a pass over all of them is as fast as a loop that counts.
 #[derive(Drop)]
 pub struct Entries<'a> {
     table: &'a [u8],

@@ -1,9 +1,9 @@
 -- The records of a table, one after another: a turn of the search, and that only the last record counts past the end. Assumes nothing.
-use mathlib.Core.Path.{◌≡◌, refl, ap, ◌∙◌}
-use Rattle.std.proofs.Common.{Some, None}
+use mathlib.Core.Path.{◌≡◌, refl, sym, ap, ◌∙◌}
+use Rattle.std.proofs.Common.{Some}
 use mathlib.Core.Bool.{true, false}
 use mathlib.Core.List.{List, [], ◌∷◌}
-use Prim.Native.Nat.{ℕ, zero, suc, ◌+◌, ◌-◌, ◌*◌, ◌/◌}
+use Prim.Native.Nat.{ℕ, zero, suc, ◌+◌, ◌-◌, ◌*◌, ◌/◌, ◌≤◌, ◌<◌}
 use native.Mathlib.Omega.{arith}
 use lib.IntN.{ℤ, pos, negsuc}
 use lib.ListN.{length}
@@ -15,22 +15,28 @@ use Rattle.chunk_index.specs.declared.entry.ChunkIndexEntry.{ChunkIndexEntry}
 use Rattle.seek.specs.Seek.{stamp_of, reaches, find, beyond, past_last}
 use Rattle.seek.specs.Steps.{least}
 
--- what the search keeps of all records: searching those that are left is searching all
-pub record Searching (stream : ℕ) (z : ℤ) (left es : List ChunkIndexEntry) : Type 0 where
-  pub rest : find stream z left ≡ find stream z es
+module _ (table : List ℕ) (at left : ℕ) where
+  entries_on : entry_len ≤ left → entries_from (left / entry_len) table at ≡ entry_at table at ∷ entries_from ((left - entry_len) / entry_len) table (at + entry_len)
+  unfolding entries_from
+  entries_on h =
+      let k : left / entry_len ≡ suc ((left - entry_len) / entry_len) = omega arith in
+      rw k
 
-module _ {stream : ℕ} {z : ℤ} {left es : List ChunkIndexEntry} (k : Searching stream z left es) where
-  pub search_on : {e : ChunkIndexEntry} {later : List ChunkIndexEntry} → left ≡ e ∷ later → reaches stream z e ≡ false → Searching stream z later es
-  unfolding find
-  search_on is g = record { rest = rw (is, g) at k.rest }
+  pub entries_off : left < entry_len → entries_from (left / entry_len) table at ≡ []
+  unfolding entries_from
+  entries_off h =
+      let k : left / entry_len ≡ 0 = omega arith in
+      rw k
 
-  pub search_here : {e : ChunkIndexEntry} {later : List ChunkIndexEntry} → left ≡ e ∷ later → reaches stream z e ≡ true → Some e.position ≡ find stream z es
-  unfolding find
-  search_here is g = rw (is, g) at k.rest
+  module _ (h : entry_len ≤ left) {e : ChunkIndexEntry} (read : e ≡ entry_at table at) where
+    pub find_on : (stream : ℕ) (z : ℤ) → reaches stream z e ≡ false
+        → find stream z (entries_from (left / entry_len) table at) ≡ find stream z (entries_from ((left - entry_len) / entry_len) table (at + entry_len))
+    unfolding find
+    find_on stream z g = rw (entries_on h, ap (reaches stream z) (sym read) ∙ g)
 
-  pub search_end : left ≡ [] → None ≡ find stream z es
-  unfolding find
-  search_end is = rw is at k.rest
+    pub find_here : (stream : ℕ) (z : ℤ) → reaches stream z e ≡ true → find stream z (entries_from (left / entry_len) table at) ≡ Some e.position
+    unfolding find
+    find_here stream z g = rw (entries_on h, ap (reaches stream z) (sym read) ∙ g, read)
 
 -- past the last of some records: only that one counts
 pub past-last : (n : ℕ) (p : Position) (table : List ℕ) (at : ℕ) → past_last p (entries_from (suc n) table at) ≡ beyond (entry_at table (at + n * entry_len))
