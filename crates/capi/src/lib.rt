@@ -203,7 +203,7 @@ pub fn amv_seek_to_via_index(
     };
     let sought = seek_to_via_index(state, table, stream, request);
     *walker = walker_words(sought.walker);
-    // Answered here, as a read is: by answer_out a jump in a short table took a third more.
+    // Answered here, as a read is: by answer_out a refused jump took up to a fifth more.
     match sought.result {
         Ok(stamp) => {
             *out = number_out(stamp);
